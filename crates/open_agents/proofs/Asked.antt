@@ -1,5 +1,5 @@
 -- What is asked of an interface's items is asked of those in the block of its handle alone.
-use Rattle.std.proofs.Common.{◌≡◌, ℕ, ◌==◌, ◌&&◌, ◌||◌, not, Bool, true, false, List, [], ◌∷◌, map, is_some, inl, inr, refl, sym, ap, ◌∙◌, Option, Some, None}
+use Rattle.std.proofs.Common.{◌≡◌, ℕ, ◌==◌, ◌&&◌, ◌||◌, not, Bool, true, false, cond, List, [], ◌∷◌, map, is_some, inl, inr, refl, sym, ap, ◌∙◌, Option, Some, None}
 use Rattle.std.specs.List.{filter, list_any, AllByRecursion}
 use Rattle.std.proofs.lemmas.Bool.{cases_Bool, eq-eqb}
 use Rattle.guid_handles.specs.HandleTables.{HandleTable, is_live, same_guid}
@@ -7,12 +7,12 @@ use Rattle.guid_handles.proofs.SortedLists.{any_found, find_filter}
 use Rattle.guid_handles.proofs.Filters.{filter_inside}
 use Rattle.guid_handles.proofs.Grouped.{is_same}
 use Rattle.open_agents.specs.declared.items.OpenRecord.{OpenRecord}
-use Rattle.open_agents.specs.OpenItems.{is_for_driver, is_exclusive, is_open_on, is_of_pair, is_closed_by, item_of, items_on, manager_of, manages, managers_of, names}
+use Rattle.open_agents.specs.OpenItems.{is_for_driver, is_exclusive, is_open_on, is_of_pair, item_of, items_on, manager_of, manages, managers_of, names}
 use Rattle.open_agents.specs.declared.items.Decision.TheVariants.{Add}
 use Rattle.open_agents.specs.OpenRule.{add_or_stop, has_equal, has_of_agent, has_holder, has_exclusive, is_driver_item, driver_item, names_badly, needs_agent, open_rule}
 use Rattle.open_agents.proofs.Placed.{none_of_agent_0}
-use Rattle.open_agents.specs.Blocks.{is_near}
-use Rattle.open_agents.specs.Listed.{is_of_agent, items_of}
+use Rattle.open_agents.specs.Blocks.{is_beside, is_near}
+use Rattle.open_agents.specs.Listed.{is_of_agent}
 
 pub first_part : (a b : Bool) → (a && b) ≡ true → a ≡ true
 first_part a b h = elim (cases_Bool a) [
@@ -20,7 +20,7 @@ first_part a b h = elim (cases_Bool a) [
   | inr e ↦ let n = rw e at h in cc
 ]
 
-open_near : (n : ℕ) (guid : List ℕ) (o : OpenRecord) → is_open_on n guid o ≡ true → is_near n o ≡ true
+pub open_near : (n : ℕ) (guid : List ℕ) (o : OpenRecord) → is_open_on n guid o ≡ true → is_near n o ≡ true
 open_near n guid o h =
     let e : o.handle ≡ n = is_same o.handle n (first_part (o.handle == n) (same_guid o.guid guid) h) in
     rw (e, eq-eqb n n refl) refl
@@ -43,26 +43,6 @@ pub second_part : (a b : Bool) → (a && b) ≡ true → b ≡ true
 second_part true b h = h
 second_part false b h = cc
 
--- the items of a pair are near its controller
-pub pair_near : (controller agent : ℕ) (opens : List OpenRecord) → (controller == 0) ≡ false → list_any (is_of_pair controller agent) (filter (is_near controller) opens) ≡ list_any (is_of_pair controller agent) opens
-pair_near controller agent opens z =
-    sym (any_found (is_of_pair controller agent) (filter (is_near controller) opens))
-    ∙ ap is_some (find_filter (is_of_pair controller agent) (is_near controller) true (λ o h. controller_near controller o z (second_part (o.agent == agent) (o.controller == controller) h)) opens)
-    ∙ any_found (is_of_pair controller agent) opens
-
--- the items of a pair are its agent's
-pub pair_of_agent : (controller agent : ℕ) (opens : List OpenRecord) → list_any (is_of_pair controller agent) (items_of opens agent) ≡ list_any (is_of_pair controller agent) opens
-pair_of_agent controller agent opens =
-    sym (any_found (is_of_pair controller agent) (items_of opens agent))
-    ∙ ap is_some (find_filter (is_of_pair controller agent) (is_of_agent agent) true (λ o h. first_part (o.agent == agent) (o.controller == controller) h) opens)
-    ∙ any_found (is_of_pair controller agent) opens
-
-any_kept : {X : Type 0} (p : X → Bool) (xs : List X) → list_any p (filter p xs) ≡ list_any p xs
-any_kept p xs = sym (any_found p (filter p xs)) ∙ ap is_some (find_filter p p true (λ x h. h) xs) ∙ any_found p xs
-
-pub of_agent_kept : (agent : ℕ) (opens : List OpenRecord) → list_any (is_of_agent agent) (items_of opens agent) ≡ list_any (is_of_agent agent) opens
-of_agent_kept agent opens = any_kept (is_of_agent agent) opens
-
 -- once the items of an agent are gone, none is of it
 pub none_of_agent : (agent : ℕ) (opens left : List OpenRecord) → left ≡ filter (λ o. not (is_of_agent agent o)) opens → AllByRecursion (λ o. (o.agent == agent) ≡ false) left
 none_of_agent agent opens left e = rw e (all_left agent opens)
@@ -78,27 +58,20 @@ none_of_agent agent opens left e = rw e (all_left agent opens)
 pub managed_near : (opens : List OpenRecord) (n : ℕ) → (n == 0) ≡ false → managers_of (filter (is_near n) opens) n ≡ managers_of opens n
 managed_near opens n z = ap (map manager_of) (filter_inside (is_near n) (manages n) (λ o h. controller_near n o z (second_part (is_for_driver o.attributes) (o.controller == n) h)) opens)
 
-far_unnamed : (n : ℕ) (o : OpenRecord) → (n == 0) ≡ false → (o.agent == n) ≡ false → is_near n o ≡ false → names n o ≡ false
-far_unnamed n o z a f = elim (cases_Bool (o.handle == n)) [
-  | inl e ↦ let t = sym (handle_near n o e) ∙ f in absurd cc
-  | inr e ↦ elim (cases_Bool (o.controller == n)) [
-    | inl k ↦ let t = sym (controller_near n o z k) ∙ f in absurd cc
-    | inr k ↦ rw (e, a, k) refl
-  ]
-]
-
-no_part : (a b : Bool) → (a || b) ≡ false → (a ≡ false) × (b ≡ false)
+pub no_part : (a b : Bool) → (a || b) ≡ false → (a ≡ false) × (b ≡ false)
 no_part true b h = cc
 no_part false b h = (refl, h)
 
--- the items that name a handle, which is the agent of none, are near it
-pub naming_near : (n : ℕ) (opens : List OpenRecord) → (n == 0) ≡ false → AllByRecursion (λ o. (o.agent == n) ≡ false) opens
-    → list_any (names n) (filter (is_near n) opens) ≡ false → list_any (names n) opens ≡ false
-naming_near n [] z a h = refl
-naming_near n (o ∷ os) z a h = elim (cases_Bool (is_near n o)) [
-  | inl e ↦ let p = no_part (names n o) (list_any (names n) (filter (is_near n) os)) (rw e at h) in rw p.0 (naming_near n os z a.1 p.1)
-  | inr e ↦ rw (far_unnamed n o z a.0 e) (naming_near n os z a.1 (rw e at h))
+pub beside_near : (n : ℕ) (o : OpenRecord) → (n == 0) ≡ false → is_beside n o ≡ true → is_near n o ≡ true
+beside_near n o z h = elim (cases_Bool (o.handle == n)) [
+  | inl e ↦ handle_near n o e
+  | inr e ↦ controller_near n o z (rw e at h)
 ]
+
+-- a handle that is the agent of no item is named beside the agents alone
+pub named_beside : (n : ℕ) (opens : List OpenRecord) → AllByRecursion (λ o. (o.agent == n) ≡ false) opens → filter (λ o. not (is_beside n o)) opens ≡ filter (λ o. not (names n o)) opens
+named_beside n [] a = refl
+named_beside n (o ∷ os) a = rw a.0 (ap (λ r. cond (not (is_beside n o)) (o ∷ r) r) (named_beside n os a.1))
 
 -- the items that name a handle, among them those of it as their agent
 pub agent_first : (n : ℕ) (opens : List OpenRecord) → filter (λ o. not (names n o)) (filter (λ o. not (is_of_agent n o)) opens) ≡ filter (λ o. not (names n o)) opens
@@ -134,9 +107,6 @@ holder_near opens n guid = any_near n guid (λ o. is_for_driver o.attributes || 
 
 pub exclusive_near : (opens : List OpenRecord) (n : ℕ) (guid : List ℕ) → has_exclusive (filter (is_near n) opens) n guid ≡ has_exclusive opens n guid
 exclusive_near opens n guid = any_near n guid (λ o. is_exclusive o.attributes) opens
-
-pub closed_near : (opens : List OpenRecord) (n : ℕ) (guid : List ℕ) (agent controller : ℕ) → list_any (is_closed_by n guid agent controller) (filter (is_near n) opens) ≡ list_any (is_closed_by n guid agent controller) opens
-closed_near opens n guid agent controller = any_near n guid (λ o. is_of_pair controller agent o) opens
 
 pub driver_near : (opens : List OpenRecord) (n : ℕ) (guid : List ℕ) → driver_item (filter (is_near n) opens) n guid ≡ driver_item opens n guid
 driver_near opens n guid = find_filter (is_driver_item n guid) (is_near n) true (λ o h. open_near n guid o (first_part (is_open_on n guid o) (o.attributes == 0x10) h)) opens

@@ -24,15 +24,15 @@ last_vacated slots k h e =
     let one = last_one slots k h (rw add-one at e) in
     all_but_last (items_in slots) (items_in (set slots k None)) one.0 one.1
 
-behind_set : (slots : List (Option OpenRecord)) (k : ℕ) → items_in (drop (suc k) slots) ≡ [] → items_in (drop k (set slots k None)) ≡ []
-behind_set [] zero e = refl
-behind_set [] (suc k) e = refl
-behind_set (s ∷ ss) zero e = e
-behind_set (s ∷ ss) (suc k) e = behind_set ss k e
+behind_set : (slots : List (Option OpenRecord)) (k : ℕ) → items_in (drop k (set slots k None)) ≡ items_in (drop (suc k) slots)
+behind_set [] zero = refl
+behind_set [] (suc k) = refl
+behind_set (s ∷ ss) zero = refl
+behind_set (s ∷ ss) (suc k) = behind_set ss k
 
--- none is left at its place or behind it
-pub vacated_behind : (slots : List (Option OpenRecord)) (k : ℕ) → items_in (drop (k + 1) slots) ≡ [] → items_in (drop k (set slots k None)) ≡ []
-vacated_behind slots k e = behind_set slots k (rw add-one at e)
+-- from its place on there is what lay behind it
+pub vacated_behind : (slots : List (Option OpenRecord)) (k : ℕ) → items_in (drop k (set slots k None)) ≡ items_in (drop (k + 1) slots)
+vacated_behind slots k = rw add-one (behind_set slots k)
 
 -- its place is not behind the end
 pub vacated_bound : (slots : List (Option OpenRecord)) (k : ℕ) → is_some (item_at slots k) ≡ true → k ≤ length (set slots k None)

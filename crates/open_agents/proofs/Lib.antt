@@ -1,5 +1,6 @@
 pub mod Placed
 pub mod Asked
+pub mod Dropping
 pub mod ListedItems
 pub mod Managing
 pub mod Used

@@ -179,7 +179,7 @@ places_other q (None ∷ ss) i zero x e f = absurd cc
 places_other q (Some o ∷ ss) i zero x e f = let n : q o ≡ false = rw (same_Some o x e) f in rw n refl
 places_other q (s ∷ ss) i (suc k) x e f = ap (λ r. cond (passes q s) (i ∷ r) r) (places_other q ss (i + 1) k x e f)
 
-emptied : (q : OpenRecord → Bool) (slots : List (Option OpenRecord)) (k : ℕ) → filter (λ x. not (x == k)) (places_from 0 q slots) ≡ places_from 0 q (set slots k None)
+pub emptied : (q : OpenRecord → Bool) (slots : List (Option OpenRecord)) (k : ℕ) → filter (λ x. not (x == k)) (places_from 0 q slots) ≡ places_from 0 q (set slots k None)
 emptied q slots k = sym (places_vacated q slots 0 k ∙ ap (λ n. filter (λ x. not (x == n)) (places_from 0 q slots)) (omega arith))
 
 blocks_removed : (slots : List (Option OpenRecord)) (k : ℕ) (x : OpenRecord) (old new : List BlockGroup) → item_at slots k ≡ Some x → ((b : ℕ) → block_at old b ≡ block_of slots b)

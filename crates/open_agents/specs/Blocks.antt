@@ -1,12 +1,15 @@
 -- The open items at their places, and where those on each handle and of each controller are, in
 -- a block of its number.
-use Rattle.std.specs.Prelude.{◌≡◌, ℕ, ◌+◌, ◌==◌, ◌||◌, ◌&&◌, Bool, true, false, cond, List, [], ◌∷◌, Option, Some, None, slice_get, slice_index_or, IfSome, IfNone}
+use Rattle.std.specs.Prelude.{◌≡◌, ℕ, ◌+◌, ◌==◌, ◌||◌, ◌&&◌, Bool, true, false, cond, drop, List, [], ◌∷◌, Option, Some, None, slice_get, slice_index_or, IfSome, IfNone}
 use Rattle.std.specs.List.{list_any, AllByRecursion}
 use Rattle.guid_handles.specs.Sorting.{Ascending}
 use Rattle.guid_handles.specs.Blocks.{Block, BlockGroup, block_at}
 use Rattle.guid_handles.specs.Places.{has_place}
 use Rattle.open_agents.specs.declared.items.OpenRecord.{OpenRecord}
 use Rattle.open_agents.specs.declared.near.Near.{Near}
+use Rattle.open_agents.specs.declared.near.Found.{Found}
+use Rattle.open_agents.specs.declared.near.Among.{Among}
+use Rattle.open_agents.specs.declared.near.Among.TheVariants.{Near as NearTo, OfAgent}
 use Rattle.open_agents.specs.OpenItems.{is_equal_item}
 use Rattle.open_agents.specs.Listed.{is_of_agent}
 
@@ -66,6 +69,25 @@ MissesNone p near result = IfNone result (list_any p (items_near near) ≡ false
 abbrev pub is_near_at : (OpenRecord → Bool) → Near → ℕ → Bool
 is_near_at p near k = has_place near.places.now k && passes p (item_at near.slots.now k)
 
+-- ---- the last item among some places
+
+-- no item at the places from an index on passes a test
+abbrev pub NoneFrom : (OpenRecord → Bool) → List (Option OpenRecord) → List ℕ → ℕ → Type 0
+NoneFrom p slots places at = list_any p (items_at slots (drop at places)) ≡ false
+
+-- the last item that passes a test is at a place
+abbrev pub IsLast : (OpenRecord → Bool) → List (Option OpenRecord) → List ℕ → Found → Type 0
+IsLast p slots places f =
+    HoldsAt p slots f.place
+    × (slice_get places f.index ≡ Some f.place)
+    × NoneFrom p slots places (f.index + 1)
+
+-- The last item that passes a test is found, if there is one.
+abbrev pub FindsLast : (OpenRecord → Bool) → List (Option OpenRecord) → List ℕ → Option Found
+    → Type 0
+FindsLast p slots places None = NoneFrom p slots places 0
+FindsLast p slots places (Some f) = IsLast p slots places f
+
 -- ---- the places of items
 
 -- some places are those of the items that pass a test
@@ -87,6 +109,15 @@ second_block o = cond (o.controller == 0) o.handle o.controller
 -- an item is on a handle, or that is its controller
 abbrev pub is_near : ℕ → OpenRecord → Bool
 is_near n o = (o.handle == n) || (second_block o == n)
+
+-- an item has a handle as its handle or its controller
+abbrev pub is_beside : ℕ → OpenRecord → Bool
+is_beside n o = (o.handle == n) || (o.controller == n)
+
+-- an item is in the block of a handle, or in that of an agent
+abbrev pub is_in_block : Among → OpenRecord → Bool
+is_in_block (NearTo n) = is_near n
+is_in_block (OfAgent a) = is_of_agent a
 
 -- ---- in step with the items
 

@@ -2,6 +2,7 @@
 #![tactic(auto)]
 
 mod attributes;
+mod item_tests;
 mod items;
 mod listed;
 mod managers;

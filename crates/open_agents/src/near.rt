@@ -11,6 +11,20 @@ pub struct Near<'a> {
     pub places: &'a [usize],
 }
 
+/// A block of places: that of a handle, or that of an agent.
+#[derive(Clone, Copy)]
+pub(crate) enum Among {
+    Near(u64),
+    OfAgent(u64),
+}
+
+/// A place among some, and its index there.
+#[derive(Clone, Copy)]
+pub(crate) struct Found {
+    pub(crate) index: usize,
+    pub(crate) place: usize,
+}
+
 /// The item at a place, if there is one.
 pub fn item_at(slots: &[Option<OpenRecord>], place: usize) -> Option<&OpenRecord>
     ensures { option_map (λ o. o.now) result ≡ item_at slots.now place }

@@ -14,13 +14,13 @@ use crate::attributes::{
     BY_CHILD_CONTROLLER, BY_DRIVER, EXCLUSIVE, is_exclusive, is_for_driver, is_known, needs_agent,
     needs_controller,
 };
+use crate::item_tests::{Beside, Closed, OfAgent, OfPair, OpenOn};
 use crate::items::{Decision, Manager, OpenItem, OpenRecord, Usage, is_open_on, item_of, manages};
 use crate::managers;
-use crate::near::{Near, item_at};
+use crate::near::{Among, Near, item_at};
 use crate::questions::{
-    find_closed, find_equal, find_last_naming, find_last_of_agent, find_last_of_pair, find_naming,
-    find_of_pair, find_open_on, first_driver_item, has_equal, has_exclusive, has_of_agent, is_held,
-    usage_near,
+    find_equal, find_last_naming, first_driver_item, has_equal, has_exclusive, has_of_agent,
+    is_held, usage_near,
 };
 use crate::store::{ItemStore, count_items};
 use guid_handles::Handles;
@@ -171,28 +171,13 @@ impl<A: Allocator + Copy> Opens<A> {
         ensures items { self.new
             ≡ without_items (is_closed_by handle guid agent controller) self.old }
     {
-        let near = self.items.near(handle);
-        let Some(first) = find_closed(near, handle, guid, agent, controller) else {
-            return false;
-        };
-        self.items.remove(first);
-        self.drop_closed(handle, guid, agent, controller);
-        true
-    }
-
-    /// Removes all items of an agent and a controller on an interface.
-    fn drop_closed(&mut self, handle: u64, guid: Uuid, agent: u64, controller: u64)
-        ensures { self.new ≡ without_items (is_closed_by handle guid agent controller) self.old }
-    {
-        while let Some(place) = find_closed(
-            self.items.near(handle),
+        let closed = Closed {
             handle,
             guid,
             agent,
             controller,
-        ) {
-            self.items.remove(place);
-        }
+        };
+        self.items.drop_passing(Among::Near(handle), &closed)
     }
 
     /// Removes all items of a controller and an agent.
@@ -211,18 +196,16 @@ impl<A: Allocator + Copy> Opens<A> {
         requires { (controller == 0) ≡ false }
         ensures { self.new ≡ without_items (spec.is_of_pair controller agent) self.old }
     {
-        while let Some(place) = find_of_pair(self.items.near(controller), controller, agent) {
-            self.items.remove(place);
-        }
+        self.items
+            .drop_passing(Among::Near(controller), &OfPair { controller, agent });
     }
 
     /// Removes all items of a controller and an agent, looked for among those of the agent.
     fn drop_pair_of_agent(&mut self, controller: u64, agent: u64)
         ensures { self.new ≡ without_items (spec.is_of_pair controller agent) self.old }
     {
-        while let Some(place) = find_last_of_pair(self.items.of_agent(agent), controller, agent) {
-            self.items.remove(place);
-        }
+        self.items
+            .drop_passing(Among::OfAgent(agent), &OfPair { controller, agent });
     }
 
     /// Removes all items that name a handle, as their handle, agent or controller.
@@ -237,13 +220,12 @@ impl<A: Allocator + Copy> Opens<A> {
         }
     }
 
-    /// Removes all items of an agent, from the last one down.
+    /// Removes all items of an agent.
     fn drop_agent(&mut self, agent: u64)
         ensures { self.new ≡ without_items (is_of_agent agent) self.old }
     {
-        while let Some(place) = find_last_of_agent(self.items.of_agent(agent), agent) {
-            self.items.remove(place);
-        }
+        self.items
+            .drop_passing(Among::OfAgent(agent), &OfAgent { agent });
     }
 
     /// Removes all items that name a handle, which is the agent of none, looked for near it.
@@ -252,17 +234,18 @@ impl<A: Allocator + Copy> Opens<A> {
         requires agent { AllByRecursion (λ o. (o.agent == handle) ≡ false) self.old }
         ensures { self.new ≡ without_items (names handle) self.old }
     {
-        while let Some(place) = find_naming(self.items.near(handle), handle) {
-            self.items.remove(place);
-        }
+        self.items
+            .drop_passing(Among::Near(handle), &Beside { handle });
     }
 
     /// Removes all items that name a handle, looked for among all.
     fn drop_naming_among_all(&mut self, handle: u64)
         ensures { self.new ≡ without_items (names handle) self.old }
     {
-        while let Some(place) = find_last_naming(self.items.slots(), handle) {
+        let mut end = self.items.slots().len();
+        while let Some(place) = find_last_naming(self.items.slots(), end, handle) {
             self.items.remove(place);
+            end = place;
         }
     }
 
@@ -270,9 +253,8 @@ impl<A: Allocator + Copy> Opens<A> {
     pub fn drop_interface(&mut self, handle: u64, guid: Uuid)
         ensures { self.new ≡ without_items (spec.is_open_on handle guid) self.old }
     {
-        while let Some(place) = find_open_on(self.items.near(handle), handle, guid) {
-            self.items.remove(place);
-        }
+        self.items
+            .drop_passing(Among::Near(handle), &OpenOn { handle, guid });
     }
 
     /// Removes the items that were made last, and leaves a number of those made first. This takes no memory.

@@ -2,13 +2,12 @@
 ghost use Rattle.std.specs.Prelude.{◌≡◌, ◌+◌, ◌≤◌, ◌==◌, ◌&&◌, ◌||◌, [], true, false, drop, length, is_some, IfSome, IfNone};
 ghost use Rattle.std.specs.List.{list_any};
 ghost use Rattle.open_agents.specs.OpenItems as spec;
-ghost use Rattle.open_agents.specs.OpenItems.{is_closed_by, is_equal_item};
-ghost use Rattle.open_agents.specs.Listed as listed;
+ghost use Rattle.open_agents.specs.OpenItems.{is_equal_item};
 ghost use Rattle.open_agents.specs.Blocks.{Finds, HoldsAt, MissesNone, item_at as there, items_in, items_near, passes};
 ghost use Rattle.open_agents.specs.OpenRule as rule;
 
 use crate::attributes::{BY_CHILD_CONTROLLER, BY_DRIVER, EXCLUSIVE, is_exclusive, is_for_driver};
-use crate::items::{OpenRecord, Usage, is_equal_item, is_of_pair, is_open_on};
+use crate::items::{OpenRecord, Usage, is_equal_item, is_open_on};
 use crate::near::{Near, item_at};
 use uuid::Uuid;
 
@@ -168,13 +167,6 @@ fn keeps(attributes: u32) -> bool
     attributes == BY_CHILD_CONTROLLER || attributes == EXCLUSIVE
 }
 
-/// Whether an item is of an agent and a controller, on an interface.
-fn is_closed(o: &OpenRecord, handle: u64, guid: Uuid, agent: u64, controller: u64) -> bool
-    ensures { result ≡ is_closed_by handle guid agent controller o.now }
-{
-    is_of_pair(o, controller, agent) && is_open_on(o, handle, guid)
-}
-
 /// Whether an item is for a driver and not exclusive, on the interface of a GUID on a handle.
 fn is_driver_item(o: &OpenRecord, handle: u64, guid: Uuid) -> bool
     ensures { result ≡ rule.is_driver_item handle guid o.now }
@@ -227,111 +219,23 @@ pub(crate) fn find_equal(
     None
 }
 
-/// The place of an item of an agent and a controller on an interface.
-pub(crate) fn find_closed(
-    near: Near<'_>,
+/// The place of the last item that names a handle, where none does at a place from `end` on.
+pub(crate) fn find_last_naming(
+    slots: &[Option<OpenRecord>],
+    end: usize,
     handle: u64,
-    guid: Uuid,
-    agent: u64,
-    controller: u64,
 ) -> Option<usize>
-    ensures there { Finds (is_closed_by handle guid agent controller) near.entry result }
-    ensures none { MissesNone (is_closed_by handle guid agent controller) near.entry result }
-{
-    for place in near.places {
-        if let Some(o) = item_at(near.slots, *place) {
-            if is_closed(o, handle, guid, agent, controller) {
-                return Some(*place);
-            }
-        }
-    }
-    None
-}
-
-/// The place of an item of an interface.
-pub(crate) fn find_open_on(near: Near<'_>, handle: u64, guid: Uuid) -> Option<usize>
-    ensures there { Finds (spec.is_open_on handle guid) near.entry result }
-    ensures none { MissesNone (spec.is_open_on handle guid) near.entry result }
-{
-    for place in near.places {
-        if let Some(o) = item_at(near.slots, *place) {
-            if is_open_on(o, handle, guid) {
-                return Some(*place);
-            }
-        }
-    }
-    None
-}
-
-/// The place of an item of a controller and an agent, among those near.
-pub(crate) fn find_of_pair(near: Near<'_>, controller: u64, agent: u64) -> Option<usize>
-    ensures there { Finds (spec.is_of_pair controller agent) near.entry result }
-    ensures none { MissesNone (spec.is_of_pair controller agent) near.entry result }
-{
-    for place in near.places {
-        if let Some(o) = item_at(near.slots, *place) {
-            if is_of_pair(o, controller, agent) {
-                return Some(*place);
-            }
-        }
-    }
-    None
-}
-
-/// The place of an item that names a handle, among those near.
-pub(crate) fn find_naming(near: Near<'_>, handle: u64) -> Option<usize>
-    ensures there { Finds (spec.names handle) near.entry result }
-    ensures none { MissesNone (spec.names handle) near.entry result }
-{
-    for place in near.places {
-        if let Some(o) = item_at(near.slots, *place) {
-            if names_handle(o, handle) {
-                return Some(*place);
-            }
-        }
-    }
-    None
-}
-
-/// The place of the last item of a controller and an agent, among some.
-pub(crate) fn find_last_of_pair(near: Near<'_>, controller: u64, agent: u64) -> Option<usize>
-    ensures there { Finds (spec.is_of_pair controller agent) near.entry result }
-    ensures none { MissesNone (spec.is_of_pair controller agent) near.entry result }
-{
-    for at in (0..near.places.len()).rev() {
-        if let Some(o) = item_at(near.slots, near.places[at]) {
-            if is_of_pair(o, controller, agent) {
-                return Some(near.places[at]);
-            }
-        }
-    }
-    None
-}
-
-/// The place of the last item of an agent, among some.
-pub(crate) fn find_last_of_agent(near: Near<'_>, agent: u64) -> Option<usize>
-    ensures there { Finds (listed.is_of_agent agent) near.entry result }
-    ensures none { MissesNone (listed.is_of_agent agent) near.entry result }
-{
-    for at in (0..near.places.len()).rev() {
-        if let Some(o) = item_at(near.slots, near.places[at]) {
-            if o.agent == agent {
-                return Some(near.places[at]);
-            }
-        }
-    }
-    None
-}
-
-/// The place of the last item that names a handle.
-pub(crate) fn find_last_naming(slots: &[Option<OpenRecord>], handle: u64) -> Option<usize>
+    requires bound { end ≤ length slots.now }
+    requires behind { list_any (spec.names handle) (items_in (drop end slots.now)) ≡ false }
     ensures there { IfSome result (HoldsAt (spec.names handle) slots.now) }
+    ensures last { IfSome result
+        (λ k. list_any (spec.names handle) (items_in (drop (k + 1) slots.now)) ≡ false) }
     ensures none { IfNone result (list_any (spec.names handle) (items_in slots.now) ≡ false) }
 {
-    for place in (0..slots.len()).rev() {
-        if let Some(o) = &slots[place] {
+    for at in (0..end).rev() {
+        if let Some(o) = &slots[at] {
             if names_handle(o, handle) {
-                return Some(place);
+                return Some(at);
             }
         }
     }

@@ -3,13 +3,14 @@ ghost use Rattle.std.specs.Prelude.{◌≡◌, ◌-◌, ◌<◌, ◌≤◌, ◌^
 ghost use Rattle.std.specs.List.{filter, list_any, AllByRecursion};
 ghost use Rattle.guid_handles.specs.Blocks.{ChangesBlock, ChangesBlocks, IsFree, block_at, with_last};
 ghost use Rattle.open_agents.specs.OpenItems as spec;
-ghost use Rattle.open_agents.specs.OpenItems.{is_equal_item, with_count};
+ghost use Rattle.open_agents.specs.OpenItems.{is_equal_item, with_count, without_items};
 ghost use Rattle.open_agents.specs.Blocks as other;
-ghost use Rattle.open_agents.specs.Blocks.{HoldsAt, are_equal, is_near, item_at as there, items_in, items_near, places_from};
+ghost use Rattle.open_agents.specs.Blocks.{FindsLast, HoldsAt, NoneFrom, are_equal, is_in_block, is_near, item_at as there, items_in, items_near, places_from};
 ghost use Rattle.open_agents.specs.Listed.{is_of_agent, items_of};
 
+use crate::item_tests::{ItemTest, find_last_passing};
 use crate::items::{OpenRecord, once_more};
-use crate::near::{Near, nth_item};
+use crate::near::{Among, Found, Near, nth_item};
 use crate::questions::find_last;
 use guid_handles::Blocks;
 use std::alloc::{AllocError, Allocator};
@@ -102,6 +103,17 @@ impl<A: Allocator + Copy> ItemStore<A> {
         }
     }
 
+    /// The items in a block.
+    pub(crate) fn among(&self, block: Among) -> Near<'_>
+        ensures slots { result.slots.now ≡ self.now }
+        ensures places { result.places.now ≡ places_from 0 (is_in_block block) self.now }
+    {
+        match block {
+            Among::Near(handle) => self.near(handle),
+            Among::OfAgent(agent) => self.of_agent(agent),
+        }
+    }
+
     /// The item at an index among those of an agent, in the order in which they were made.
     pub(crate) fn nth_of(&self, agent: u64, index: usize) -> Option<OpenRecord>
         ensures { result ≡ slice_get (items_of (items_in self.now) agent) index }
@@ -142,6 +154,37 @@ impl<A: Allocator + Copy> ItemStore<A> {
                 .remove_ascending_from_both(item.handle, second, place);
             self.agents.remove_ascending(item.agent, place);
         }
+    }
+
+    /// The last item of a block that passes a test, where none does from the index `end` on.
+    fn last_below<T: ItemTest>(&self, block: Among, end: usize, test: &T) -> Option<Found>
+        requires bound { end ≤ length (places_from 0 (is_in_block block) self.now) }
+        requires behind { NoneFrom (T.meaning test.now)
+            self.now (places_from 0 (is_in_block block) self.now) end }
+        ensures { FindsLast (T.meaning test.now)
+            self.now (places_from 0 (is_in_block block) self.now) result }
+    {
+        if end == 0 {
+            return None;
+        }
+        find_last_passing(self.among(block), end, test)
+    }
+
+    /// Removes all items that pass a test, each of which is in a block, and returns whether there
+    /// were any. This looks at each place of the block once, from the last one down.
+    pub(crate) fn drop_passing<T: ItemTest>(&mut self, block: Among, test: &T) -> bool
+        requires { (o : _) → T.meaning test.now o ≡ true → is_in_block block o ≡ true }
+        ensures found { result ≡ list_any (T.meaning test.now) (items_in self.old) }
+        ensures items { items_in self.new ≡ without_items (T.meaning test.now) (items_in self.old) }
+    {
+        let near = self.among(block);
+        let mut found = find_last_passing(near, near.places.len(), test);
+        let any = found.is_some();
+        while let Some(last) = found {
+            self.remove(last.place);
+            found = self.last_below(block, last.index, test);
+        }
+        any
     }
 
     /// Removes the last item, if there is one, where none is at a place from `end` on. Returns a place from

@@ -4,5 +4,5 @@ use Rattle.open_agents.specs.OpenItems.{names}
 use Rattle.open_agents.specs.Blocks.{items_in}
 use Rattle.open_agents.proofs.questions.find_last_naming.Given as goal
 
-abbrev pub invariant-loop-place : goal.invariant-loop-place
-invariant-loop-place l = list_any (names l.handle) (items_in (drop l.place l.slots)) ≡ false
+abbrev pub invariant-loop-at : goal.invariant-loop-at
+invariant-loop-at l = list_any (names l.handle) (items_in (drop l.at l.slots)) ≡ false

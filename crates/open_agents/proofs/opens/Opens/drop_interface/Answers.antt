@@ -1,15 +1,5 @@
-use Rattle.std.proofs.Common.{sym, ◌∙◌}
-use Rattle.open_agents.specs.OpenItems.{is_open_on}
-use Rattle.open_agents.proofs.Asked.{open_on_near, none_dropped}
-use Rattle.open_agents.proofs.Placed.{vacated_smaller, without_held}
+use Rattle.open_agents.proofs.Asked.{open_near}
 use Rattle.open_agents.proofs.opens.Opens.drop_interface.Goals as goal
 
-pub loop-place-smaller : goal.loop-place-smaller
-loop-place-smaller g c = rw c.remove.ensures (vacated_smaller (is_open_on c.args.handle c.args.guid) c.loop-place.self-inside.items c.in-Some.place (rw c.near.ensures.slots at c.in-Some.ensures.there))
-
-pub loop-place-preserved : goal.loop-place-preserved
-loop-place-preserved g c =
-    rw c.remove.ensures (without_held (is_open_on c.args.handle c.args.guid) c.loop-place.self-inside.items c.in-Some.place (rw c.near.ensures.slots at c.in-Some.ensures.there) ∙ c.loop-place.invariant)
-
-pub returns : goal.returns
-returns g c = none_dropped (is_open_on c.args.handle c.args.guid) _ (sym (open_on_near c.args.handle c.args.guid _) ∙ rw c.near.ensures.items at c.in_default.ensures.none) ∙ c.loop-place.invariant
+pub drop_passing-requires : goal.drop_passing-requires
+drop_passing-requires g c = open_near c.args.handle c.args.guid

@@ -1,16 +1,6 @@
-use Rattle.std.proofs.Common.{sym, ◌∙◌}
-use Rattle.open_agents.specs.OpenItems.{is_of_pair}
-use Rattle.open_agents.proofs.Asked.{pair_near, none_dropped}
-use Rattle.open_agents.proofs.Placed.{vacated_smaller, without_held}
+use Rattle.std.proofs.Common.{◌==◌}
+use Rattle.open_agents.proofs.Asked.{controller_near, second_part}
 use Rattle.open_agents.proofs.opens.Opens.drop_pair_near.Goals as goal
 
-pub loop-place-smaller : goal.loop-place-smaller
-loop-place-smaller g c = rw c.remove.ensures (vacated_smaller (is_of_pair c.args.controller c.args.agent) c.loop-place.self-inside.items c.in-Some.place (rw c.near.ensures.slots at c.in-Some.ensures.there))
-
-pub loop-place-preserved : goal.loop-place-preserved
-loop-place-preserved g c =
-    rw c.remove.ensures (without_held (is_of_pair c.args.controller c.args.agent) c.loop-place.self-inside.items c.in-Some.place (rw c.near.ensures.slots at c.in-Some.ensures.there) ∙ c.loop-place.invariant)
-
-pub returns : goal.returns
-returns g c =
-    none_dropped (is_of_pair c.args.controller c.args.agent) _ (sym (pair_near c.args.controller c.args.agent _ c.requires) ∙ rw c.near.ensures.items at c.in_default.ensures.none) ∙ c.loop-place.invariant
+pub drop_passing-requires : goal.drop_passing-requires
+drop_passing-requires g c = λ o h. controller_near c.args.controller o c.requires (second_part (o.agent == c.args.agent) (o.controller == c.args.controller) h)

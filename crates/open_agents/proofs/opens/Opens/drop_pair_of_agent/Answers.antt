@@ -1,15 +1,6 @@
-use Rattle.std.proofs.Common.{sym, ◌∙◌}
-use Rattle.open_agents.specs.OpenItems.{is_of_pair}
-use Rattle.open_agents.proofs.Asked.{none_dropped, pair_of_agent}
-use Rattle.open_agents.proofs.Placed.{vacated_smaller, without_held}
+use Rattle.std.proofs.Common.{◌==◌}
+use Rattle.open_agents.proofs.Asked.{first_part}
 use Rattle.open_agents.proofs.opens.Opens.drop_pair_of_agent.Goals as goal
 
-pub loop-place-smaller : goal.loop-place-smaller
-loop-place-smaller g c = rw c.remove.ensures (vacated_smaller (is_of_pair c.args.controller c.args.agent) c.loop-place.self-inside.items c.in-Some.place (rw c.of_agent.ensures.slots at c.in-Some.ensures.there))
-
-pub loop-place-preserved : goal.loop-place-preserved
-loop-place-preserved g c =
-    rw c.remove.ensures (without_held (is_of_pair c.args.controller c.args.agent) c.loop-place.self-inside.items c.in-Some.place (rw c.of_agent.ensures.slots at c.in-Some.ensures.there) ∙ c.loop-place.invariant)
-
-pub returns : goal.returns
-returns g c = none_dropped (is_of_pair c.args.controller c.args.agent) _ (sym (pair_of_agent c.args.controller c.args.agent _) ∙ rw c.of_agent.ensures.items at c.in_default.ensures.none) ∙ c.loop-place.invariant
+pub drop_passing-requires : goal.drop_passing-requires
+drop_passing-requires g c = λ o h. first_part (o.agent == c.args.agent) (o.controller == c.args.controller) h

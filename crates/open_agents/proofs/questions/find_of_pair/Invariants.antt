@@ -1,8 +1,0 @@
-use Rattle.std.proofs.Common.{◌≡◌, drop}
-use Rattle.std.specs.List.{list_any}
-use Rattle.open_agents.specs.OpenItems.{is_of_pair}
-use Rattle.open_agents.specs.Blocks.{items_at}
-use Rattle.open_agents.proofs.questions.find_of_pair.Given as goal
-
-abbrev pub invariant-loop-place : goal.invariant-loop-place
-invariant-loop-place l = list_any (is_of_pair l.controller l.agent) (items_at l.near.slots.now l.near.places.now) ≡ list_any (is_of_pair l.controller l.agent) (items_at l.near.slots.now (drop l.place-index l.near.places.now))
