@@ -169,7 +169,8 @@ impl<A: Allocator + Copy> ExtentGroups<A> {
     /// An extent.
     pub(crate) fn extent(&self, spot: Spot) -> &PoolExtent<A>
         requires { IsSpot (rows_of self.now) spot }
-        ensures { IsAt (extents_of self.now) (index_of (rows_of self.now) spot) result.now }
+        ensures { IsAt (extents_of self.now) (index_of (rows_of self.now) spot)
+            result.now }
     {
         &self.groups[spot.group].extents[spot.at]
     }
