@@ -5,9 +5,10 @@
  * one may return OUT_OF_RESOURCES, leaves all as it was then, and returns SUCCESS once there is
  * memory. A new core places pages 64 times, and frees them, without memory. A block of a page or
  * less that is taken and freed in turn takes no memory after the first time, and its bytes are 0
- * each time. The heap is that of
- * refusing_heap.h, instead of the library's. Each point that does not hold is printed on standard
- * error, and then the status is 1. */
+ * each time. Where the extents of the pool fill a group, one more is refused at each allocation that
+ * it needs, or is served; all end without memory. The heap is that of refusing_heap.h, instead of
+ * the library's. Each point that does not hold is printed on standard error, and then the status is
+ * 1. */
 #include "drawn_load.h"
 #include "draws.h"
 #include "points.h"
@@ -253,6 +254,41 @@ static void try_turns(uint64_t seed)
     HOLDS(in_use == 0);
 }
 
+/* ---- An extent more in a full group ---- */
+
+/* The extents of a group before it is cut into two. */
+#define GROUP 128U
+
+/* Blocks of a page each, which have extents of their own. For the one that is too many for a group
+ * each allocation is refused in turn. */
+static void try_full_group(void)
+{
+    struct rafkudin *core = core_of_load(1, false);
+    uint64_t blocks[GROUP + 1] = {0}, status;
+    unsigned long number = 0;
+
+    map_take(&first, core);
+    for (size_t at = 0; at < GROUP; at++)
+        HOLDS(RafkudinAllocatePool(core, RAFKUDIN_LOADER_DATA, LARGEST_IN_A_PAGE, &blocks[at]) ==
+              RAFKUDIN_SUCCESS);
+    map_take(&before, core);
+    do {
+        refuse(++number, ULONG_MAX);
+        status =
+            RafkudinAllocatePool(core, RAFKUDIN_LOADER_DATA, LARGEST_IN_A_PAGE, &blocks[GROUP]);
+        HOLDS(status == RAFKUDIN_SUCCESS || (was_refused && is_same_map(core)));
+    } while (status == RAFKUDIN_OUT_OF_RESOURCES && number < 1000);
+    HOLDS(status == RAFKUDIN_SUCCESS && number > 4);
+    refuse(1, ULONG_MAX);
+    for (size_t at = 0; at <= GROUP; at++)
+        HOLDS(RafkudinFreePool(core, blocks[at * 50 % (GROUP + 1)]) == RAFKUDIN_SUCCESS);
+    refuse_none();
+    map_take(&after, core);
+    HOLDS(map_equals(&first, &after));
+    RafkudinFree(core);
+    HOLDS(in_use == 0);
+}
+
 /* A core for which there is no memory is not made, whichever allocation is the first that is
  * refused. */
 static void try_making(void)
@@ -287,6 +323,7 @@ int main(void)
         try_first_placements(seed, seed % 2 == 0 ? 1 : 16);
     for (uint64_t seed = 1; seed <= 8; seed++)
         try_turns(seed);
+    try_full_group();
     try_making();
     return points_end("freed_without_memory");
 }

@@ -14,7 +14,7 @@ use Rattle.std.proofs.lemmas.Bool.{and_parts, eqb-true, cases_eq}
 use Rattle.raw_pool.specs.Blocks.{Block, block_at, cells_for, longest_run, lowest_fit, new_block, with_block, without_block}
 use Rattle.pool_services.specs.Extents.{Extent, Place, AreExtents, IsExtent, address_of, at_cell, begins_at, cell_of, cells_in, ended, fit_in, left_of, range_if_ended, range_of, tail_at, tail_in, with_blocks, with_extent, written_in}
 use Rattle.pool_services.specs.Regions.{with_block_at}
-use Rattle.pool_services.specs.Searches.{HasRoom, place, HoldsAddress, IsAt, IsEnded, IsFirstWithRoom, IsFound, IsGivable, IsGivenIn, IsHolder, IsWrittenIn, written_if, IsTakenAt, IsTakenLive, has_run}
+use Rattle.pool_services.specs.Searches.{HasRoom, place, HoldsAddress, IsAt, IsFirstWithRoom, IsFound, IsGivable, IsGivenIn, IsHolder, IsWrittenIn, written_if, IsTakenAt, IsTakenLive, has_run}
 use Rattle.pool_services.proofs.CellBlocks.{are-with, are-without, are-written, count-with, count-without, count-written-in, fits}
 use Rattle.pool_services.proofs.ExtentLists.{all-at, are-set, fit-here, fit-none, are-gone, gone-is, insert-is, is-extent, place-here, set-is, set-same, tail-here, written-is}
 
@@ -218,6 +218,13 @@ freed-in b es address i c new (e, h, k, p, a) (x, g, n, d, o) =
     let same : x ≡ e = same-at es i x e g h in
     let q : record { first = x.first; cell = c } ≡ record { first = e.first; cell = c } = ap (λ (z : Extent). record { first = z.first; cell = c }) same in
     (record { first = x.first; cell = c }, p ∙ ap (λ (z : Place). Some z) (sym q), sym (ap (λ (o : Option PageRange). given_if o b) d), n)
+
+-- an extent ended, which no lack of memory prevents
+abbrev pub IsEnded : ℕ → Book → List Extent → Result (Unit {0}) Status → Book → List Extent → Type 0
+IsEnded i b es (Ok done) new_b new =
+    (e : Extent) × IsAt es i e × (new_b ≡ given_back (range_of e) b)
+    × (new ≡ take i es ++ drop (i + 1) es)
+IsEnded i b es (Err status) new_b new = ⊥
 
 pub freed-ended : (b : Book) (es : List Extent) (address i c : ℕ) (x : Extent) (result : Result (Unit {0}) Status) (new_b : Book) (new : List Extent) → IsFound address es (Some (i, c)) → x ≡ slice_index_or es i x → length x.blocks ≡ 1 → IsEnded i b es result new_b new →
     FreesPool b es address result new_b new

@@ -41,7 +41,8 @@ without_extent i es = take i es ++ drop (i + 1) es
 -- a group has memory for one extent more
 abbrev pub HasPlace : {A : Type 0} → ExtentGroup A → Type 0
 HasPlace g =
-    (vec_len g.extents < vec_capacity g.extents) × (vec_len g.rooms.rooms < vec_capacity g.rooms.rooms)
+    (vec_len g.extents < vec_capacity g.extents)
+    × (vec_len g.rooms.rooms < vec_capacity g.rooms.rooms)
 
 -- the group at an index has
 abbrev pub HasPlaceAt : {A : Type 0} → List (ExtentGroup A) → ℕ → Type 0

@@ -1,9 +1,7 @@
 -- What is found in an extent and among extents.
-use Rattle.std.specs.Prelude.{◌≡◌, ℕ, suc, ◌+◌, ◌==◌, ◌&&◌, take, ◌<◌, ◌≤◌, nat_le, slice_index_or, Bool, true, false, cond, is_some, List, [], ◌∷◌, length, drop, map, set, Option, Some, None, Result, Ok, Err, ◌≢◌, ◌++◌, IsTrue, ◌↔◌}
+use Rattle.std.specs.Prelude.{◌≡◌, ℕ, suc, ◌+◌, ◌==◌, ◌&&◌, take, ◌<◌, ◌≤◌, nat_le, slice_index_or, Bool, true, false, cond, is_some, List, [], ◌∷◌, length, drop, map, set, Option, Some, None, ◌≢◌, ◌++◌, IsTrue, ◌↔◌}
 use Rattle.std.specs.List.{AllByRecursion}
 use Rattle.raw_pool.specs.Blocks.{Block, block_at, cells_for, longest_run, lowest_fit, without_block}
-use Rattle.page_ranges.specs.declared.statuses.Status.{Status}
-use Rattle.page_services.specs.PageRules.{Book, given_back}
 use Rattle.pool_services.specs.declared.rooms.Room.{Room}
 use Rattle.pool_services.specs.PoolRules.{IsInBlock, extent_type}
 use Rattle.pool_services.specs.Extents.{place_of, written, AreExtents, Extent, Place, ended, range_of, without, address_of, cells_in, first_fit, fit_in, with_new_block, tail_in, with_blocks, written_in}
@@ -120,13 +118,6 @@ IsGivenIn i cell es new =
 abbrev pub IsGivenAt : ℕ → ℕ → List Extent → List Extent → Type 0
 IsGivenAt i cell es new =
     (e : Extent) × IsAt es i e × (new ≡ set es i (with_blocks (without_block cell e.blocks) e))
-
--- an extent ended, which no lack of memory prevents
-abbrev pub IsEnded : ℕ → Book → List Extent → Result (Unit {0}) Status → Book → List Extent → Type 0
-IsEnded i b es (Ok done) new_b new =
-    (e : Extent) × IsAt es i e × (new_b ≡ given_back (range_of e) b)
-    × (new ≡ take i es ++ drop (i + 1) es)
-IsEnded i b es (Err status) new_b new = ⊥
 
 -- the block that has an address: the index of its extent and its cell, among extents in order
 abbrev pub IsFound : ℕ → List Extent → Option (ℕ × ℕ) → Type 0
