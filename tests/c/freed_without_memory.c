@@ -259,26 +259,36 @@ static void try_turns(uint64_t seed)
 /* The extents of a group before it is cut into two. */
 #define GROUP 128U
 
-/* Blocks of a page each, which have extents of their own. For the one that is too many for a group
- * each allocation is refused in turn. */
-static void try_full_group(void)
+/* Takes a block of a page, which has an extent of its own, once each allocation that it needs was
+ * refused in turn. Returns how many these are, and one. */
+static unsigned long take_refused(struct rafkudin *core, uint64_t *block)
 {
-    struct rafkudin *core = core_of_load(1, false);
-    uint64_t blocks[GROUP + 1] = {0}, status;
     unsigned long number = 0;
+    uint64_t status;
 
-    map_take(&first, core);
-    for (size_t at = 0; at < GROUP; at++)
-        HOLDS(RafkudinAllocatePool(core, RAFKUDIN_LOADER_DATA, LARGEST_IN_A_PAGE, &blocks[at]) ==
-              RAFKUDIN_SUCCESS);
     map_take(&before, core);
     do {
         refuse(++number, ULONG_MAX);
-        status =
-            RafkudinAllocatePool(core, RAFKUDIN_LOADER_DATA, LARGEST_IN_A_PAGE, &blocks[GROUP]);
+        status = RafkudinAllocatePool(core, RAFKUDIN_LOADER_DATA, LARGEST_IN_A_PAGE, block);
         HOLDS(status == RAFKUDIN_SUCCESS || (was_refused && is_same_map(core)));
     } while (status == RAFKUDIN_OUT_OF_RESOURCES && number < 1000);
-    HOLDS(status == RAFKUDIN_SUCCESS && number > 4);
+    HOLDS(status == RAFKUDIN_SUCCESS);
+    refuse_none();
+    return number;
+}
+
+/* One extent more than a group holds needs memory for another group. */
+static void try_full_group(void)
+{
+    struct rafkudin *core = core_of_load(1, false);
+    uint64_t blocks[GROUP + 1] = {0};
+    unsigned long last = 0, next;
+
+    map_take(&first, core);
+    for (size_t at = 0; at < GROUP; at++)
+        last = take_refused(core, &blocks[at]);
+    next = take_refused(core, &blocks[GROUP]);
+    HOLDS(next > last + 1);
     refuse(1, ULONG_MAX);
     for (size_t at = 0; at <= GROUP; at++)
         HOLDS(RafkudinFreePool(core, blocks[at * 50 % (GROUP + 1)]) == RAFKUDIN_SUCCESS);

@@ -8,8 +8,8 @@ use Rattle.guid_handles.specs.Places.{has_place}
 use Rattle.open_agents.specs.declared.items.OpenRecord.{OpenRecord}
 use Rattle.open_agents.specs.declared.near.Near.{Near}
 use Rattle.open_agents.specs.declared.near.Found.{Found}
-use Rattle.open_agents.specs.declared.near.Among.{Among}
-use Rattle.open_agents.specs.declared.near.Among.TheVariants.{Near as NearTo, OfAgent}
+use Rattle.open_agents.specs.declared.near.BlockOf.{BlockOf}
+use Rattle.open_agents.specs.declared.near.BlockOf.TheVariants.{Agent, Handle}
 use Rattle.open_agents.specs.OpenItems.{is_equal_item}
 use Rattle.open_agents.specs.Listed.{is_of_agent}
 
@@ -115,9 +115,9 @@ abbrev pub is_beside : ℕ → OpenRecord → Bool
 is_beside n o = (o.handle == n) || (o.controller == n)
 
 -- an item is in the block of a handle, or in that of an agent
-abbrev pub is_in_block : Among → OpenRecord → Bool
-is_in_block (NearTo n) = is_near n
-is_in_block (OfAgent a) = is_of_agent a
+abbrev pub is_in_block : BlockOf → OpenRecord → Bool
+is_in_block (Handle n) = is_near n
+is_in_block (Agent a) = is_of_agent a
 
 -- ---- in step with the items
 

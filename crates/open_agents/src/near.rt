@@ -11,11 +11,11 @@ pub struct Near<'a> {
     pub places: &'a [usize],
 }
 
-/// A block of places: that of a handle, or that of an agent.
+/// A block of places, by the handle or the agent that it is of.
 #[derive(Clone, Copy)]
-pub(crate) enum Among {
-    Near(u64),
-    OfAgent(u64),
+pub(crate) enum BlockOf {
+    Handle(u64),
+    Agent(u64),
 }
 
 /// A place among some, and its index there.

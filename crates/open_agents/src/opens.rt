@@ -17,7 +17,7 @@ use crate::attributes::{
 use crate::item_tests::{Beside, Closed, OfAgent, OfPair, OpenOn};
 use crate::items::{Decision, Manager, OpenItem, OpenRecord, Usage, is_open_on, item_of, manages};
 use crate::managers;
-use crate::near::{Among, Near, item_at};
+use crate::near::{BlockOf, Near, item_at};
 use crate::questions::{
     find_equal, find_last_naming, first_driver_item, has_equal, has_exclusive, has_of_agent,
     is_held, usage_near,
@@ -177,7 +177,7 @@ impl<A: Allocator + Copy> Opens<A> {
             agent,
             controller,
         };
-        self.items.drop_passing(Among::Near(handle), &closed)
+        self.items.drop_passing(BlockOf::Handle(handle), &closed)
     }
 
     /// Removes all items of a controller and an agent.
@@ -197,7 +197,7 @@ impl<A: Allocator + Copy> Opens<A> {
         ensures { self.new ≡ without_items (spec.is_of_pair controller agent) self.old }
     {
         self.items
-            .drop_passing(Among::Near(controller), &OfPair { controller, agent });
+            .drop_passing(BlockOf::Handle(controller), &OfPair { controller, agent });
     }
 
     /// Removes all items of a controller and an agent, looked for among those of the agent.
@@ -205,7 +205,7 @@ impl<A: Allocator + Copy> Opens<A> {
         ensures { self.new ≡ without_items (spec.is_of_pair controller agent) self.old }
     {
         self.items
-            .drop_passing(Among::OfAgent(agent), &OfPair { controller, agent });
+            .drop_passing(BlockOf::Agent(agent), &OfPair { controller, agent });
     }
 
     /// Removes all items that name a handle, as their handle, agent or controller.
@@ -225,7 +225,7 @@ impl<A: Allocator + Copy> Opens<A> {
         ensures { self.new ≡ without_items (is_of_agent agent) self.old }
     {
         self.items
-            .drop_passing(Among::OfAgent(agent), &OfAgent { agent });
+            .drop_passing(BlockOf::Agent(agent), &OfAgent { agent });
     }
 
     /// Removes all items that name a handle, which is the agent of none, looked for near it.
@@ -235,7 +235,7 @@ impl<A: Allocator + Copy> Opens<A> {
         ensures { self.new ≡ without_items (names handle) self.old }
     {
         self.items
-            .drop_passing(Among::Near(handle), &Beside { handle });
+            .drop_passing(BlockOf::Handle(handle), &Beside { handle });
     }
 
     /// Removes all items that name a handle, looked for among all.
@@ -254,7 +254,7 @@ impl<A: Allocator + Copy> Opens<A> {
         ensures { self.new ≡ without_items (spec.is_open_on handle guid) self.old }
     {
         self.items
-            .drop_passing(Among::Near(handle), &OpenOn { handle, guid });
+            .drop_passing(BlockOf::Handle(handle), &OpenOn { handle, guid });
     }
 
     /// Removes the items that were made last, and leaves a number of those made first. This takes no memory.

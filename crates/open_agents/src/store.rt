@@ -10,7 +10,7 @@ ghost use Rattle.open_agents.specs.Listed.{is_of_agent, items_of};
 
 use crate::item_tests::{ItemTest, find_last_passing};
 use crate::items::{OpenRecord, once_more};
-use crate::near::{Among, Found, Near, nth_item};
+use crate::near::{BlockOf, Found, Near, nth_item};
 use crate::questions::find_last;
 use guid_handles::Blocks;
 use std::alloc::{AllocError, Allocator};
@@ -104,13 +104,13 @@ impl<A: Allocator + Copy> ItemStore<A> {
     }
 
     /// The items in a block.
-    pub(crate) fn among(&self, block: Among) -> Near<'_>
+    fn among(&self, block: BlockOf) -> Near<'_>
         ensures slots { result.slots.now ≡ self.now }
         ensures places { result.places.now ≡ places_from 0 (is_in_block block) self.now }
     {
         match block {
-            Among::Near(handle) => self.near(handle),
-            Among::OfAgent(agent) => self.of_agent(agent),
+            BlockOf::Handle(handle) => self.near(handle),
+            BlockOf::Agent(agent) => self.of_agent(agent),
         }
     }
 
@@ -157,7 +157,7 @@ impl<A: Allocator + Copy> ItemStore<A> {
     }
 
     /// The last item of a block that passes a test, where none does from the index `end` on.
-    fn last_below<T: ItemTest>(&self, block: Among, end: usize, test: &T) -> Option<Found>
+    fn last_below<T: ItemTest>(&self, block: BlockOf, end: usize, test: &T) -> Option<Found>
         requires bound { end ≤ length (places_from 0 (is_in_block block) self.now) }
         requires behind { NoneFrom (T.meaning test.now)
             self.now (places_from 0 (is_in_block block) self.now) end }
@@ -172,7 +172,7 @@ impl<A: Allocator + Copy> ItemStore<A> {
 
     /// Removes all items that pass a test, each of which is in a block, and returns whether there
     /// were any. This looks at each place of the block once, from the last one down.
-    pub(crate) fn drop_passing<T: ItemTest>(&mut self, block: Among, test: &T) -> bool
+    pub(crate) fn drop_passing<T: ItemTest>(&mut self, block: BlockOf, test: &T) -> bool
         requires { (o : _) → T.meaning test.now o ≡ true → is_in_block block o ≡ true }
         ensures found { result ≡ list_any (T.meaning test.now) (items_in self.old) }
         ensures items { items_in self.new ≡ without_items (T.meaning test.now) (items_in self.old) }

@@ -1,6 +1,6 @@
 -- What the calls do to one extent of the pool.
 use Rattle.std.proofs.Common.{◌≡◌, ℕ, zero, suc, ◌+◌, ◌<◌, ◌≤◌, ◌==◌, nat_le, slice_index_or, Result, Ok, Err, eq-eqb, ne_eqb, add-one, Bool, true, false, is_some, inl, inr, List, [], ◌∷◌, ◌++◌, length, take, drop, set, Option, Some, None, refl, sym, ap, ◌∙◌, arith, subst}
-use Rattle.std.specs.List.{AllByRecursion, insert}
+use Rattle.std.specs.List.{insert}
 use Rattle.std.specs.Bool.{IsTrue}
 use Rattle.page_ranges.specs.declared.ranges.PageRange.{PageRange}
 use Rattle.page_ranges.specs.declared.statuses.Status.{Status}
@@ -22,11 +22,6 @@ pub same-at : (es : List Extent) (i : ℕ) (e x : Extent) → IsAt es i e → Is
 same-at [] i e x h g = absurd (omega (arith, h.0))
 same-at (y ∷ ys) zero e x h g = h.1 ∙ sym g.1
 same-at (y ∷ ys) (suc i) e x h g = same-at ys i e x (omega (arith, h.0), h.1) (omega (arith, g.0), g.1)
-
-pub all-more : (P : Extent → Type 0) (es : List Extent) (i : ℕ) (e : Extent) → AllByRecursion P (take i es) → IsAt es i e → P e → AllByRecursion P (take (suc i) es)
-all-more P [] i e a h p = tt
-all-more P (x ∷ xs) zero e a h p = (subst P h.1 p, tt)
-all-more P (x ∷ xs) (suc i) e a h p = (a.0, all-more P xs i e a.1 (omega (arith, h.0), h.1) p)
 
 -- ---- an extent stays one
 
@@ -273,8 +268,3 @@ gone-owns b new_b es i e new a owns h gb n =
     let m : new_b.memory ≡ retyped (range_of e) conventional Given b.memory = ap (λ (y : Book). y.memory) g in
     let l : new ≡ take i es ++ drop (suc i) es = n ∙ ap (λ (j : ℕ). take i es ++ drop j es) (add-one i) in
     λ k. ap (λ (y : List Page). pool_type (page_at y k)) m ∙ owns-less b.memory es i e a owns h k ∙ ap (λ (ys : List Extent). extent_type k ys) (sym l)
-
-pub givable : (address i c : ℕ) (es : List Extent) (x : Extent) (r : Bool) → IsFound address es (Some (i, c)) → x ≡ slice_index_or es i x → (length x.blocks ≡ 1 → r ≡ true) → r ≡ false → IsGivable i c es
-givable address i c es x r (e, h, k, p, a) s one f =
-    let same : e ≡ x = same-at es i e x h (h.0, s) in
-    (e, h, k, λ l. let z = one (subst (λ (y : Extent). length y.blocks ≡ 1) same l) in absurd cc)

@@ -161,11 +161,6 @@ groups-fall page (g ∷ gs) a u = (
 pub groups-parted : {A : Type 0} (page : ℕ) (gs : List (ExtentGroup A)) → AreExtents (joined (rows_of gs)) → AreUsed (rows_of gs) → IsPartitionedBy (is-begun page) gs
 groups-parted page gs a u = partitioned (is-begun page) gs (groups-fall page gs a u)
 
-pub only-group : (page : ℕ) (rows : List (List Extent)) → length rows ≤ 1 → IsGroupOf page rows 0
-only-group page [] l = record { within = λ h. h; below = tt; above = tt }
-only-group page (r ∷ []) l = record { within = λ h. omega arith; below = tt; above = tt }
-only-group page (r ∷ (s ∷ rs)) l = absurd (omega (arith, l))
-
 -- the extents before a group that begins at or below a page
 ended-below : (page : ℕ) (rows : List (List Extent)) (k : ℕ) (es : List Extent) → AreExtents (joined rows) → k < length rows → row rows k ≡ es → 0 < length es → first_page es ≤ page → AllByRecursion (λ x. x.first + x.pages ≤ page) (joined (take k rows))
 ended-below page rows k [] a l e u f = absurd (omega (arith, u))

@@ -25,8 +25,9 @@ abbrev pub first_page : List Extent → ℕ
 first_page [] = 0
 first_page (e ∷ es) = e.first
 
--- The group to which a page belongs, if there is a group: the extents of all groups before it end
--- at or below the page, and those of all groups behind it begin above the page.
+-- A group in which an extent that begins at a page or has it belongs, if there is a group: the
+-- extents of all groups before it end at or below the page, those of all groups behind it begin
+-- above it.
 pub record IsGroupOf (page : ℕ) (rows : List (List Extent)) (at : ℕ) : Type 0 where
   pub within : 0 < length rows → at < length rows
   pub below : AllByRecursion (λ e. e.first + e.pages ≤ page) (joined (take at rows))
@@ -44,7 +45,7 @@ HasPlace g =
     (vec_len g.extents < vec_capacity g.extents)
     × (vec_len g.rooms.rooms < vec_capacity g.rooms.rooms)
 
--- the group at an index has
+-- there is a group at an index, and it has memory for one extent more
 abbrev pub HasPlaceAt : {A : Type 0} → List (ExtentGroup A) → ℕ → Type 0
 HasPlaceAt {A} gs at =
     (at < length gs) × ((g : ExtentGroup A) → g ≡ slice_index_or gs at g → HasPlace g)

@@ -1,10 +1,10 @@
 -- What is found in an extent and among extents.
-use Rattle.std.specs.Prelude.{◌≡◌, ℕ, suc, ◌+◌, ◌==◌, ◌&&◌, take, ◌<◌, ◌≤◌, nat_le, slice_index_or, Bool, true, false, cond, is_some, List, [], ◌∷◌, length, drop, map, set, Option, Some, None, ◌≢◌, ◌++◌, IsTrue, ◌↔◌}
+use Rattle.std.specs.Prelude.{◌≡◌, ℕ, suc, ◌+◌, ◌==◌, ◌&&◌, take, ◌<◌, ◌≤◌, nat_le, slice_index_or, Bool, true, false, cond, is_some, List, [], ◌∷◌, length, drop, map, set, Option, Some, None, ◌≢◌, IsTrue, ◌↔◌}
 use Rattle.std.specs.List.{AllByRecursion}
 use Rattle.raw_pool.specs.Blocks.{Block, block_at, cells_for, longest_run, lowest_fit, without_block}
 use Rattle.pool_services.specs.declared.rooms.Room.{Room}
 use Rattle.pool_services.specs.PoolRules.{IsInBlock, extent_type}
-use Rattle.pool_services.specs.Extents.{place_of, written, AreExtents, Extent, Place, ended, range_of, without, address_of, cells_in, first_fit, fit_in, with_new_block, tail_in, with_blocks, written_in}
+use Rattle.pool_services.specs.Extents.{place_of, written, AreExtents, Extent, Place, ended, without, address_of, cells_in, first_fit, fit_in, with_new_block, tail_in, with_blocks, written_in}
 use Rattle.pool_services.specs.Regions.{with_block_at}
 use Rattle.pool_services.specs.Rooms.{room_of}
 

@@ -99,10 +99,7 @@ fn split<A: Allocator + Copy>(
 }
 
 /// Makes a first group, where there is none.
-fn begin<A: Allocator + Copy>(
-    groups: &mut Vec<ExtentGroup<A>, A>,
-    alloc: A,
-) -> Result<(), AllocError>
+fn begin<A: Allocator + Copy>(groups: &mut Vec<ExtentGroup<A>, A>) -> Result<(), AllocError>
     requires { AreApart groups.old.items }
     ensures extents { extents_of groups.new.items ≡ extents_of groups.old.items }
     ensures apart { AreApart groups.new.items }
@@ -111,7 +108,7 @@ fn begin<A: Allocator + Copy>(
     if !groups.is_empty() {
         return Ok(());
     }
-    groups.push(ExtentGroup::new(alloc))?;
+    groups.push(ExtentGroup::new(*groups.allocator()))?;
     Ok(())
 }
 
@@ -163,6 +160,7 @@ impl<A: Allocator + Copy> ExtentGroups<A> {
     pub(crate) fn apart_law(&self)
         ensures { AreExtents (extents_of self.now) }
     {
+        // The invariant is known where a field is named.
         let _ = &self.groups;
     }
 
@@ -239,7 +237,7 @@ impl<A: Allocator + Copy> ExtentGroups<A> {
     pub(crate) fn block_from(&self, address: u64) -> Option<PoolBlock>
         ensures { result ≡ find (is_from address) (blocks_of (extents_of self.now)) }
     {
-        // Each group but the first has a block, so these are three at most.
+        // Each group but the first has a block, so these are two at most.
         for at in group_up_to(self.groups.as_slice(), address / PAGE_SIZE)..self.groups.len() {
             let block = self.groups[at].block_from(address);
             if block.is_some() {
@@ -250,13 +248,13 @@ impl<A: Allocator + Copy> ExtentGroups<A> {
     }
 
     /// Takes memory for one extent more, which begins at a page, and returns its group. The extents stay.
-    pub(crate) fn reserve(&mut self, alloc: A, page: u64) -> Result<usize, AllocError>
+    pub(crate) fn reserve(&mut self, page: u64) -> Result<usize, AllocError>
         ensures extents { extents_of self.new ≡ extents_of self.old }
         ensures group { IfOk result (λ at. IsGroupOf page (rows_of self.new) at) }
         ensures place { IfOk result (HasPlaceAt self.new) }
         ensures apart { AreExtents (extents_of self.new) }
     {
-        begin(&mut self.groups, alloc)?;
+        begin(&mut self.groups)?;
         let at = roomy_group(&mut self.groups, page)?;
         self.groups[at].reserve_one()?;
         Ok(at)

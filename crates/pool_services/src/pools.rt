@@ -165,10 +165,10 @@ impl<A: Allocator + Copy> Pools<A> {
             return Err(Status::OutOfResources);
         };
         let (memory, page) = (self.memory, chosen.first);
-        let Some(region) = self.spare.region(self.alloc, memory, page, pages) else {
+        let Ok(group) = self.extents.reserve(page) else {
             return Err(Status::OutOfResources);
         };
-        let Ok(group) = self.extents.reserve(self.alloc, page) else {
+        let Some(region) = self.spare.region(self.alloc, memory, page, pages) else {
             return Err(Status::OutOfResources);
         };
         // That the book's memory is proper is known of its table's length.
