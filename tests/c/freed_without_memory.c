@@ -260,7 +260,8 @@ static void try_turns(uint64_t seed)
 #define GROUP 128U
 
 /* Takes a block of a page, which has an extent of its own, once each allocation that it needs was
- * refused in turn. Returns how many these are, and one. */
+ * refused in turn. Returns at which one nothing was refused: a group that a refused call cut in two
+ * stays so. */
 static unsigned long take_refused(struct rafkudin *core, uint64_t *block)
 {
     unsigned long number = 0;
@@ -288,7 +289,7 @@ static void try_full_group(void)
     for (size_t at = 0; at < GROUP; at++)
         last = take_refused(core, &blocks[at]);
     next = take_refused(core, &blocks[GROUP]);
-    HOLDS(next > last + 1);
+    HOLDS(next > last);
     refuse(1, ULONG_MAX);
     for (size_t at = 0; at <= GROUP; at++)
         HOLDS(RafkudinFreePool(core, blocks[at * 50 % (GROUP + 1)]) == RAFKUDIN_SUCCESS);
