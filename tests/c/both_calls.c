@@ -38,6 +38,13 @@ static bool are_events(const struct both *both, size_t from)
     return count <= COUNT(events) && are_returned(both, from, events, count);
 }
 
+static bool is_guid(const struct rafkudin_guid *guid, uint8_t byte)
+{
+    struct rafkudin_guid other = guid_of(byte);
+
+    return memcmp(guid, &other, sizeof other) == 0;
+}
+
 /* ---- Installations and registrations ---- */
 
 /* Whether an installation on a handle returned what the lists did. */
@@ -79,6 +86,17 @@ uint64_t both_uninstall(struct both *both, uint64_t handle, struct named named)
     uint64_t wanted = plain_uninstall(both->lists, handle, named.guid, named.value);
 
     HOLDS(RafkudinUninstallProtocolInterface(both->core, handle, &guid, named.value) == wanted);
+    return wanted;
+}
+
+uint64_t both_reinstall(struct both *both, uint64_t handle, struct named named, uint64_t value)
+{
+    struct rafkudin_guid guid = guid_of(named.guid);
+    uint64_t wanted = plain_reinstall(both->lists, handle, named.guid, named.value, value);
+
+    HOLDS(RafkudinReinstallProtocolInterface(both->core, handle, &guid, named.value, value) ==
+          wanted);
+    HOLDS(are_events(both, 0));
     return wanted;
 }
 
@@ -151,15 +169,13 @@ uint64_t both_locate_protocol(struct both *both, uint8_t byte, uint64_t key)
 
 uint64_t both_protocols(struct both *both, uint64_t handle)
 {
-    struct rafkudin_guid guids[16], other;
+    struct rafkudin_guid guids[16];
     uint64_t wanted = plain_protocols(both->lists, handle), count = 0;
 
     HOLDS(RafkudinProtocolsPerHandle(both->core, handle, guids, 16, &count) == wanted);
     HOLDS(count == both->lists->number_count);
-    for (size_t at = 0; at < count && at < both->lists->number_count; at++) {
-        other = guid_of((uint8_t)both->lists->numbers[at]);
-        HOLDS(memcmp(&guids[at], &other, sizeof other) == 0);
-    }
+    for (size_t at = 0; at < count && at < both->lists->number_count; at++)
+        HOLDS(is_guid(&guids[at], (uint8_t)both->lists->numbers[at]));
     return wanted;
 }
 
@@ -246,11 +262,12 @@ uint64_t both_information(struct both *both, uint64_t handle, uint8_t byte)
 
 /* ---- Drivers ---- */
 
-uint64_t both_connect(struct both *both, uint64_t handle)
+uint64_t both_connect(struct both *both, uint64_t handle, bool is_recursive)
 {
-    uint64_t wanted = plain_connect(both->lists, handle);
+    uint64_t wanted = plain_connect(both->lists, handle, is_recursive);
 
-    HOLDS(RafkudinConnectController(both->core, handle, NULL, 0, false) == wanted);
+    HOLDS(RafkudinConnectController(both->core, handle, NULL, 0, is_recursive) == wanted);
+    HOLDS(are_events(both, 0));
     return wanted;
 }
 
@@ -264,44 +281,67 @@ uint64_t both_disconnect(struct both *both, uint64_t handle, uint64_t driver)
 
 /* ---- The whole state ---- */
 
-/* Compares the interfaces on a handle, and their values. */
-static void compare_interfaces(struct both *both, uint64_t handle)
+/* How many interfaces, or open items, of each handle are compared already, by its number. */
+static size_t seen[1 << 16];
+
+static void see_none(const struct lists *lists)
 {
-    struct rafkudin_interface interface;
-    size_t found = 0;
-
-    both_protocols(both, handle);
-    for (size_t at = 0; at < both->lists->interface_count; at++) {
-        const struct interface *wanted = &both->lists->interfaces[at];
-        struct rafkudin_guid guid = guid_of(wanted->guid);
-
-        if (wanted->handle != handle)
-            continue;
-        HOLDS(RafkudinInterface(both->core, handle, found++, &interface) == RAFKUDIN_SUCCESS);
-        HOLDS(memcmp(&interface.guid, &guid, sizeof guid) == 0);
-        HOLDS(interface.value == wanted->value);
-    }
-    HOLDS(RafkudinInterface(both->core, handle, found, &interface) == RAFKUDIN_NOT_FOUND);
+    if (lists->last_number >= COUNT(seen))
+        abort();
+    memset(seen, 0, (lists->last_number + 1) * sizeof seen[0]);
 }
 
-/* Compares the items of an agent, one after the other. */
-static void compare_items_of(struct both *both, uint64_t agent)
+/* Compares the interfaces on all handles, and their values. */
+static void compare_interfaces(const struct both *both)
 {
+    const struct lists *lists = both->lists;
+    struct rafkudin_interface interface;
+    struct rafkudin_guid guids[16];
+    uint64_t count = 0;
+
+    see_none(lists);
+    for (size_t at = 0; at < lists->interface_count; at++) {
+        const struct interface *wanted = &lists->interfaces[at];
+        size_t index = seen[wanted->handle]++;
+
+        HOLDS(RafkudinInterface(both->core, wanted->handle, index, &interface) == RAFKUDIN_SUCCESS);
+        HOLDS(is_guid(&interface.guid, wanted->guid) && interface.value == wanted->value);
+        HOLDS(RafkudinProtocolsPerHandle(both->core, wanted->handle, guids, 16, &count) ==
+              RAFKUDIN_SUCCESS);
+        HOLDS(index < count && is_guid(&guids[index], wanted->guid));
+    }
+    for (size_t at = 0; at < lists->handle_count; at++) {
+        uint64_t handle = lists->handles[at];
+
+        HOLDS(RafkudinInterface(both->core, handle, seen[handle], &interface) ==
+              RAFKUDIN_NOT_FOUND);
+        HOLDS(RafkudinProtocolsPerHandle(both->core, handle, NULL, 0, &count) ==
+              RAFKUDIN_BUFFER_TOO_SMALL);
+        HOLDS(count == seen[handle]);
+    }
+}
+
+/* Compares the items of each agent, one after the other. */
+static void compare_items(const struct both *both)
+{
+    const struct lists *lists = both->lists;
     struct rafkudin_open open;
-    size_t found = 0;
 
-    for (size_t at = 0; at < both->lists->item_count; at++) {
-        const struct item *item = &both->lists->items[at];
-        struct rafkudin_guid guid = guid_of(item->guid);
+    see_none(lists);
+    for (size_t at = 0; at < lists->item_count; at++) {
+        const struct item *item = &lists->items[at];
 
-        if (item->agent != agent)
-            continue;
-        HOLDS(RafkudinAgentItem(both->core, agent, found++, &open) == RAFKUDIN_SUCCESS);
-        HOLDS(open.handle == item->handle && memcmp(&open.guid, &guid, sizeof guid) == 0);
-        HOLDS(open.agent == agent && open.controller == item->controller);
+        HOLDS(RafkudinAgentItem(both->core, item->agent, seen[item->agent]++, &open) ==
+              RAFKUDIN_SUCCESS);
+        HOLDS(open.handle == item->handle && is_guid(&open.guid, item->guid));
+        HOLDS(open.agent == item->agent && open.controller == item->controller);
         HOLDS(open.attributes == item->attributes && open.open_count == item->count);
     }
-    HOLDS(RafkudinAgentItem(both->core, agent, found, &open) == RAFKUDIN_NOT_FOUND);
+    for (size_t at = 0; at < lists->handle_count; at++) {
+        uint64_t agent = lists->handles[at];
+
+        HOLDS(RafkudinAgentItem(both->core, agent, seen[agent], &open) == RAFKUDIN_NOT_FOUND);
+    }
 }
 
 /* Compares the children of each pair that made some. */
@@ -325,10 +365,8 @@ static void compare_children(struct both *both)
 void both_compare(struct both *both)
 {
     both_locate(both, RAFKUDIN_ALL_HANDLES, 1, 0, RAFKUDIN_MAX_HANDLES * 8);
-    for (size_t at = 0; at < both->lists->handle_count; at++) {
-        compare_interfaces(both, both->lists->handles[at]);
-        compare_items_of(both, both->lists->handles[at]);
-    }
+    compare_interfaces(both);
+    compare_items(both);
     for (size_t at = 0; at < both->lists->item_count; at++)
         both_information(both, both->lists->items[at].handle, both->lists->items[at].guid);
     compare_children(both);

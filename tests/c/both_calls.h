@@ -23,6 +23,7 @@ uint64_t both_install_many(struct both *both, uint64_t handle, const struct name
 
 /* The other services. */
 uint64_t both_uninstall(struct both *both, uint64_t handle, struct named named);
+uint64_t both_reinstall(struct both *both, uint64_t handle, struct named named, uint64_t value);
 uint64_t both_register(struct both *both, uint8_t byte, uint64_t event);
 uint64_t both_locate(struct both *both, uint32_t search, uint8_t byte, uint64_t key, uint64_t room);
 uint64_t both_locate_buffer(struct both *both, uint32_t search, uint8_t byte, uint64_t key);
@@ -32,7 +33,7 @@ uint64_t both_open(struct both *both, const struct item *open);
 uint64_t both_close(struct both *both, const struct item *closed);
 uint64_t both_handle_protocol(struct both *both, uint64_t handle, uint8_t byte);
 uint64_t both_information(struct both *both, uint64_t handle, uint8_t byte);
-uint64_t both_connect(struct both *both, uint64_t handle);
+uint64_t both_connect(struct both *both, uint64_t handle, bool is_recursive);
 uint64_t both_disconnect(struct both *both, uint64_t handle, uint64_t driver);
 
 /* Compares all handles, their interfaces, the items on these and those of each handle as an agent,

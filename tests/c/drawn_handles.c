@@ -1,9 +1,12 @@
 /* Drawn calls of the services on handles, each compared with plain lists: its status, and all that
- * it returns. First on cores without drivers; then on one handle, with up to 20 open items; then on
- * full cores and on small ones, on which drivers start, make children and stop. There all handles,
- * interfaces and open items are compared too, on the small ones after each stop that is refused. Of
- * each service and status a least number of calls is wanted, and of each reason for which a stop is
- * refused. Each point that does not hold is printed on standard error, and then the status is 1. */
+ * it returns, with the events that it signals. First on cores without drivers; then on one handle,
+ * with up to 20 open items; then on full cores and on small ones, on which drivers start, make
+ * children and stop. There a connect goes down to the eighth level or not below its handle, and a
+ * reinstallation stops drivers and starts them again. All handles, interfaces and open items are
+ * compared too: on the full cores every 250 calls, on the small ones after each stop that is
+ * refused, and at the end of each core. Of each service and status a least number of calls is
+ * wanted, and of each reason for which a stop is refused. Each point that does not hold is printed
+ * on standard error, and then the status is 1. */
 #include "both_calls.h"
 #include "draws.h"
 #include "points.h"
@@ -65,6 +68,24 @@ static uint64_t install(struct both *both)
 
     named.value = draw(&both->seed);
     return both_install(both, handle, kind, named);
+}
+
+/* An interface by its value, now and then by another; on a handle that lacks the GUID, by a low
+ * number. */
+static struct named named_on(struct both *both, uint64_t handle, uint8_t guid)
+{
+    const struct interface *interface = interface_of(both->lists, handle, guid);
+    uint64_t value = interface == NULL ? 0 : interface->value;
+
+    return (struct named){guid, value + one_of(&both->seed, 16)};
+}
+
+/* Replaces the value of an interface by a low number, which may be the index of a driver. */
+static uint64_t reinstall(struct both *both, const struct item *item)
+{
+    struct named named = named_on(both, item->handle, item->guid);
+
+    return both_reinstall(both, item->handle, named, draw_below(&both->seed, 8));
 }
 
 /* Up to three interfaces, in which a GUID may occur twice. */
@@ -197,20 +218,26 @@ static uint64_t information(struct both *both)
 /* ---- Cores without drivers ---- */
 
 /* Each service, the more often the oftener it is drawn. */
-static const enum service plain_services[24] = {
-    INSTALL,       INSTALL,     INSTALL,         INSTALL_MANY,    INSTALL_MANY,    REGISTER,
-    LOCATE_ALL,    LOCATE_NEXT, LOCATE_NEXT,     LOCATE_HOLDERS,  LOCATE_NONE,     LOCATE_BUFFER,
-    LOCATE_PROTOCOL, LOCATE_PROTOCOL, PROTOCOLS, OPEN,            OPEN,            OPEN,
-    OPEN,          OPEN,        OPEN,            CLOSE,           HANDLE_PROTOCOL, INFORMATION,
+static const enum service plain_services[] = {
+    INSTALL,        INSTALL,     INSTALL,       INSTALL_MANY,    INSTALL_MANY,
+    REINSTALL,      REGISTER,    LOCATE_ALL,    LOCATE_NEXT,     LOCATE_NEXT,
+    LOCATE_HOLDERS, LOCATE_NONE, LOCATE_BUFFER, LOCATE_PROTOCOL, LOCATE_PROTOCOL,
+    PROTOCOLS,      OPEN,        OPEN,          OPEN,            OPEN,
+    OPEN,           OPEN,        CLOSE,         HANDLE_PROTOCOL, INFORMATION,
 };
 
 static uint64_t serve(struct both *both, enum service service)
 {
+    struct item item;
+
     switch (service) {
     case INSTALL:
         return install(both);
     case INSTALL_MANY:
         return install_many(both);
+    case REINSTALL:
+        item = known_open(both);
+        return reinstall(both, &item);
     case REGISTER:
         return register_one(both);
     case LOCATE_ALL:
@@ -239,14 +266,18 @@ static uint64_t serve(struct both *both, enum service service)
 
 /* How many machines there are, and how many calls are made on each. */
 #define MACHINES 100U
-#define CALLS 500U
+#define CALLS 520U
 
 /* The least of each that is wanted of ten machines. */
 static const struct least least_plain[] = {
-    {INSTALL, RAFKUDIN_SUCCESS, 300},
+    {INSTALL, RAFKUDIN_SUCCESS, 200},
     {INSTALL, RAFKUDIN_INVALID_PARAMETER, 200},
     {INSTALL_MANY, RAFKUDIN_SUCCESS, 100},
     {INSTALL_MANY, RAFKUDIN_INVALID_PARAMETER, 200},
+    {REINSTALL, RAFKUDIN_SUCCESS, 28},
+    {REINSTALL, RAFKUDIN_INVALID_PARAMETER, 28},
+    {REINSTALL, RAFKUDIN_NOT_FOUND, 30},
+    {REINSTALL, RAFKUDIN_ACCESS_DENIED, 52},
     {REGISTER, RAFKUDIN_SUCCESS, 150},
     {LOCATE_ALL, RAFKUDIN_SUCCESS, 60},
     {LOCATE_ALL, RAFKUDIN_BUFFER_TOO_SMALL, 60},
@@ -259,7 +290,7 @@ static const struct least least_plain[] = {
     {LOCATE_HOLDERS, RAFKUDIN_BUFFER_TOO_SMALL, 40},
     {LOCATE_NONE, RAFKUDIN_INVALID_PARAMETER, 100},
     {LOCATE_BUFFER, RAFKUDIN_SUCCESS, 100},
-    {LOCATE_BUFFER, RAFKUDIN_NOT_FOUND, 20},
+    {LOCATE_BUFFER, RAFKUDIN_NOT_FOUND, 15},
     {LOCATE_BUFFER, RAFKUDIN_INVALID_PARAMETER, 20},
     {LOCATE_PROTOCOL, RAFKUDIN_SUCCESS, 100},
     {LOCATE_PROTOCOL, RAFKUDIN_NOT_FOUND, 40},
@@ -269,9 +300,9 @@ static const struct least least_plain[] = {
     {OPEN, RAFKUDIN_SUCCESS, 300},
     {OPEN, RAFKUDIN_INVALID_PARAMETER, 300},
     {OPEN, RAFKUDIN_UNSUPPORTED, 100},
-    {OPEN, RAFKUDIN_ALREADY_STARTED, 50},
+    {OPEN, RAFKUDIN_ALREADY_STARTED, 40},
     {OPEN, RAFKUDIN_ACCESS_DENIED, 60},
-    {CLOSE, RAFKUDIN_SUCCESS, 60},
+    {CLOSE, RAFKUDIN_SUCCESS, 40},
     {CLOSE, RAFKUDIN_INVALID_PARAMETER, 40},
     {CLOSE, RAFKUDIN_NOT_FOUND, 50},
     {HANDLE_PROTOCOL, RAFKUDIN_SUCCESS, 40},
@@ -287,10 +318,11 @@ static void draw_without_drivers(void)
         struct both both = {small_core(NULL, 0), lists_new(NULL, 0), seed};
 
         for (unsigned call = 0; call < CALLS; call++) {
-            enum service service = plain_services[draw(&both.seed) % 24];
+            enum service service = plain_services[draw(&both.seed) % COUNT(plain_services)];
 
             tally(service, serve(&both, service));
         }
+        both_compare(&both);
         both_free(&both);
         if (seed == 9)
             try_least(least_plain, COUNT(least_plain));
@@ -345,19 +377,23 @@ static void draw_on_one(uint64_t seed)
 
 /* ---- Cores with drivers ---- */
 
-/* The first one's child carries what the second opens, whose child carries what the third opens. */
-static const struct plain_driver drivers[4] = {
-    {3, 1, 2, true}, {4, 2, 3, true}, {1, 3, 0, true}, {1, 4, 1, false}};
+/* The first one's child carries what the second opens, whose child carries what the third opens.
+ * The last one's child carries what the driver opens itself. */
+static const struct plain_driver drivers[] = {
+    {3, 1, 2, true}, {4, 2, 3, true}, {1, 3, 0, true}, {1, 4, 1, false}, {2, 5, 5, true}};
 
 /* The indices of drivers that handles carry, the last of which is of none. */
-static const uint64_t bindings[7] = {0, 1, 2, 3, 0, 1, 4};
+static const uint64_t bindings[] = {0, 1, 2, 3, 0, 1, 4, 5};
 
 /* Each service, the more often the oftener it is drawn. */
-static const enum service driver_services[16] = {
-    INSTALL, INSTALL, INSTALL, UNINSTALL, UNINSTALL, UNINSTALL,  OPEN,       OPEN,
-    OPEN,    OPEN,    CLOSE,   CONNECT,   CONNECT,   CONNECT, DISCONNECT, DISCONNECT};
+static const enum service driver_services[] = {
+    INSTALL,   INSTALL,     INSTALL,     UNINSTALL,   UNINSTALL,
+    UNINSTALL, REINSTALL,   REINSTALL,   LOCATE_NEXT, OPEN,
+    OPEN,      OPEN,        OPEN,        CLOSE,       CONNECT,
+    CONNECT,   CONNECT_ALL, CONNECT_ALL, DISCONNECT,  DISCONNECT,
+};
 
-/* The least of each that is wanted of 2,000 calls on a full core. */
+/* The least of each that is wanted of 2,500 calls on a full core. */
 static const struct least least_many[] = {
     {INSTALL, RAFKUDIN_SUCCESS, 100},
     {INSTALL, RAFKUDIN_INVALID_PARAMETER, 30},
@@ -366,15 +402,25 @@ static const struct least least_many[] = {
     {UNINSTALL, RAFKUDIN_INVALID_PARAMETER, 12},
     {UNINSTALL, RAFKUDIN_NOT_FOUND, 90},
     {UNINSTALL, RAFKUDIN_ACCESS_DENIED, 85},
+    {REINSTALL, RAFKUDIN_SUCCESS, 39},
+    {REINSTALL, RAFKUDIN_INVALID_PARAMETER, 9},
+    {REINSTALL, RAFKUDIN_NOT_FOUND, 68},
+    {REINSTALL, RAFKUDIN_ACCESS_DENIED, 46},
+    {LOCATE_NEXT, RAFKUDIN_SUCCESS, 39},
+    {LOCATE_NEXT, RAFKUDIN_INVALID_PARAMETER, 33},
+    {LOCATE_NEXT, RAFKUDIN_BUFFER_TOO_SMALL, 9},
     {OPEN, RAFKUDIN_SUCCESS, 120},
     {OPEN, RAFKUDIN_INVALID_PARAMETER, 58},
     {OPEN, RAFKUDIN_ALREADY_STARTED, 16},
     {OPEN, RAFKUDIN_ACCESS_DENIED, 69},
-    {CLOSE, RAFKUDIN_SUCCESS, 44},
-    {CLOSE, RAFKUDIN_NOT_FOUND, 38},
-    {CONNECT, RAFKUDIN_SUCCESS, 74},
-    {CONNECT, RAFKUDIN_INVALID_PARAMETER, 35},
-    {CONNECT, RAFKUDIN_NOT_FOUND, 140},
+    {CLOSE, RAFKUDIN_SUCCESS, 36},
+    {CLOSE, RAFKUDIN_NOT_FOUND, 31},
+    {CONNECT, RAFKUDIN_SUCCESS, 47},
+    {CONNECT, RAFKUDIN_INVALID_PARAMETER, 21},
+    {CONNECT, RAFKUDIN_NOT_FOUND, 96},
+    {CONNECT_ALL, RAFKUDIN_SUCCESS, 49},
+    {CONNECT_ALL, RAFKUDIN_INVALID_PARAMETER, 23},
+    {CONNECT_ALL, RAFKUDIN_NOT_FOUND, 104},
     {DISCONNECT, RAFKUDIN_SUCCESS, 110},
     {DISCONNECT, RAFKUDIN_INVALID_PARAMETER, 40},
     {DISCONNECT, RAFKUDIN_DEVICE_ERROR, 13},
@@ -391,20 +437,22 @@ static struct rafkudin_driver table_of(const struct plain_driver *plain)
     return table;
 }
 
-/* A core with the drivers, a handle for each binding, and a number of handles that carry one of
- * five GUIDs. */
+/* A core with the drivers, a handle for each binding, a number of handles that carry one of five
+ * GUIDs, and an event for each of these. */
 static struct both begin(uint64_t seed, uint64_t handles)
 {
-    struct rafkudin_driver tables[4];
-    struct both both = {NULL, lists_new(drivers, 4), seed};
+    struct rafkudin_driver tables[COUNT(drivers)];
+    struct both both = {NULL, lists_new(drivers, COUNT(drivers)), seed};
 
-    for (size_t at = 0; at < 4; at++)
+    for (size_t at = 0; at < COUNT(drivers); at++)
         tables[at] = table_of(&drivers[at]);
-    both.core = small_core(tables, 4);
-    for (size_t at = 0; at < 7; at++)
+    both.core = small_core(tables, COUNT(drivers));
+    for (size_t at = 0; at < COUNT(bindings); at++)
         both_install(&both, 0, 0, (struct named){BINDING, bindings[at]});
     for (uint64_t number = 0; number < handles; number++)
-        both_install(&both, 0, 0, (struct named){(uint8_t)(number % 5 + 1), number});
+        both_install(&both, 0, 0, (struct named){(uint8_t)(number % GUIDS + 1), number});
+    for (uint8_t byte = 1; byte <= GUIDS; byte++)
+        both_register(&both, byte, byte);
     return both;
 }
 
@@ -434,7 +482,7 @@ static uint64_t any_handle(struct both *both)
 /* A driver handle, or any. */
 static uint64_t draw_agent(struct both *both)
 {
-    return one_of(&both->seed, 3) ? any_handle(both) : draw_below(&both->seed, 8);
+    return one_of(&both->seed, 3) ? any_handle(both) : draw_below(&both->seed, COUNT(bindings) + 1);
 }
 
 /* An interface that is open, or one of a handle's; the rest of the item is not set. */
@@ -505,15 +553,11 @@ static uint64_t install_somewhere(struct both *both)
     return both_install(both, handle, 0, draw_named(both));
 }
 
-/* Takes an interface out, now and then with another value. */
 static uint64_t uninstall(struct both *both)
 {
     struct item item = draw_interface(both);
-    const struct interface *interface = interface_of(both->lists, item.handle, item.guid);
-    uint64_t value = interface == NULL ? 0 : interface->value;
 
-    return both_uninstall(both, item.handle,
-                          (struct named){item.guid, value + one_of(&both->seed, 16)});
+    return both_uninstall(both, item.handle, named_on(both, item.handle, item.guid));
 }
 
 /* Stops the drivers of the controller of an item, or of a handle, or one of them. */
@@ -534,6 +578,11 @@ static uint64_t serve_with_drivers(struct both *both, enum service service)
         return install_somewhere(both);
     case UNINSTALL:
         return uninstall(both);
+    case REINSTALL:
+        item = draw_interface(both);
+        return reinstall(both, &item);
+    case LOCATE_NEXT:
+        return locate(both, RAFKUDIN_BY_REGISTER_NOTIFY);
     case OPEN:
         item = draw_item(both);
         return both_open(both, &item);
@@ -541,7 +590,8 @@ static uint64_t serve_with_drivers(struct both *both, enum service service)
         item = known_item(both);
         return both_close(both, &item);
     case CONNECT:
-        return both_connect(both, any_handle(both));
+    case CONNECT_ALL:
+        return both_connect(both, any_handle(both), service == CONNECT_ALL);
     case DISCONNECT:
         return disconnect(both);
     default:
@@ -551,19 +601,21 @@ static uint64_t serve_with_drivers(struct both *both, enum service service)
 
 static void make_call(struct both *both)
 {
-    enum service service = driver_services[draw(&both->seed) % 16];
+    enum service service = driver_services[draw(&both->seed) % COUNT(driver_services)];
 
     tally(service, serve_with_drivers(both, service));
 }
 
-/* Calls on a full core. */
+/* Calls on a full core, whose whole state is compared ten times. */
 static void draw_on_many(uint64_t seed)
 {
-    struct both both = begin(seed, 4060);
+    struct both both = begin(seed, 4059);
 
-    for (unsigned call = 0; call < 2000; call++)
+    for (unsigned call = 1; call <= 2500; call++) {
         make_call(&both);
-    both_compare(&both);
+        if (call % 250 == 0)
+            both_compare(&both);
+    }
     if (seed == 1)
         try_least(least_many, COUNT(least_many));
     both_free(&both);
@@ -571,8 +623,8 @@ static void draw_on_many(uint64_t seed)
 
 /* How often each hindrance is wanted on the first eight small cores. */
 static const unsigned long hindrances[HINDRANCES] = {
-    [NO_DRIVER] = 25, [STAYS] = 360, [ITEM] = 11, [HANDLE] = 22,
-    [OPENER] = 46,    [AGENT] = 14,  [KEPT] = 140};
+    [NO_DRIVER] = 14, [STAYS] = 265, [ITEM] = 140, [HANDLE] = 11,
+    [OPENER] = 64,    [AGENT] = 26,  [KEPT] = 155};
 
 static unsigned long refused_in_all(const struct lists *lists)
 {
@@ -589,7 +641,7 @@ static void draw_on_few(uint64_t seed, unsigned long refused[HINDRANCES])
 {
     struct both both = begin(seed, 25);
 
-    for (unsigned call = 0; call < 1000; call++) {
+    for (unsigned call = 0; call < 1250; call++) {
         unsigned long before = refused_in_all(both.lists);
 
         make_call(&both);

@@ -65,11 +65,27 @@ uint64_t make_handle(struct lists *lists)
     return lists->last_number;
 }
 
+static void return_events(struct lists *lists, uint8_t guid)
+{
+    for (size_t at = 0; at < lists->registration_count; at++)
+        if (lists->registrations[at].guid == guid)
+            return_number(lists, lists->registrations[at].event);
+}
+
 void push_interface(struct lists *lists, uint64_t handle, uint8_t guid, uint64_t value)
 {
     need(lists->interface_count < COUNT(lists->interfaces));
     lists->interfaces[lists->interface_count++] =
         (struct interface){handle, guid, value, ++lists->last_stamp};
+    return_events(lists, guid);
+}
+
+void replace_value(struct lists *lists, uint64_t handle, uint8_t guid, uint64_t value)
+{
+    for (size_t at = 0; at < lists->interface_count; at++)
+        if (lists->interfaces[at].handle == handle && lists->interfaces[at].guid == guid)
+            lists->interfaces[at] = (struct interface){handle, guid, value, ++lists->last_stamp};
+    return_events(lists, guid);
 }
 
 void push_item(struct lists *lists, const struct item *item)
@@ -101,18 +117,24 @@ void drop_handle(struct lists *lists, uint64_t handle)
     lists->item_count = items;
 }
 
+void drop_items(struct lists *lists, uint64_t handle, uint8_t guid)
+{
+    size_t items = 0;
+
+    for (size_t at = 0; at < lists->item_count; at++)
+        if (lists->items[at].handle != handle || lists->items[at].guid != guid)
+            lists->items[items++] = lists->items[at];
+    lists->item_count = items;
+}
+
 void drop_interface(struct lists *lists, uint64_t handle, uint8_t guid)
 {
-    size_t interfaces = 0, items = 0;
+    size_t interfaces = 0;
 
     for (size_t at = 0; at < lists->interface_count; at++)
         if (lists->interfaces[at].handle != handle || lists->interfaces[at].guid != guid)
             lists->interfaces[interfaces++] = lists->interfaces[at];
-    for (size_t at = 0; at < lists->item_count; at++)
-        if (lists->items[at].handle != handle || lists->items[at].guid != guid)
-            lists->items[items++] = lists->items[at];
     lists->interface_count = interfaces;
-    lists->item_count = items;
     if (first_guid(lists, handle) == 0)
         drop_handle(lists, handle);
 }
@@ -133,13 +155,6 @@ static bool is_any_taken(const struct lists *lists, uint64_t handle, const struc
     return false;
 }
 
-static void return_events(struct lists *lists, uint8_t guid)
-{
-    for (size_t at = 0; at < lists->registration_count; at++)
-        if (lists->registrations[at].guid == guid)
-            return_number(lists, lists->registrations[at].event);
-}
-
 uint64_t plain_install(struct lists *lists, uint64_t handle, uint32_t kind,
                        const struct named *named, size_t count)
 {
@@ -152,10 +167,8 @@ uint64_t plain_install(struct lists *lists, uint64_t handle, uint32_t kind,
     if (handle == 0)
         handle = make_handle(lists);
     return_number(lists, handle);
-    for (size_t at = 0; at < count; at++) {
+    for (size_t at = 0; at < count; at++)
         push_interface(lists, handle, named[at].guid, named[at].value);
-        return_events(lists, named[at].guid);
-    }
     return RAFKUDIN_SUCCESS;
 }
 

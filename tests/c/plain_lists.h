@@ -102,6 +102,8 @@ uint8_t first_guid(const struct lists *lists, uint64_t handle);
 uint64_t plain_install(struct lists *lists, uint64_t handle, uint32_t kind,
                        const struct named *named, size_t count);
 uint64_t plain_uninstall(struct lists *lists, uint64_t handle, uint8_t guid, uint64_t value);
+uint64_t plain_reinstall(struct lists *lists, uint64_t handle, uint8_t guid, uint64_t old_value,
+                         uint64_t new_value);
 uint64_t plain_register(struct lists *lists, uint8_t guid, uint64_t event);
 uint64_t plain_locate(struct lists *lists, uint32_t search, uint8_t guid, uint64_t key,
                       uint64_t room);
@@ -110,7 +112,7 @@ uint64_t plain_protocols(struct lists *lists, uint64_t handle);
 uint64_t plain_open(struct lists *lists, const struct item *open);
 uint64_t plain_close(struct lists *lists, const struct item *closed);
 uint64_t plain_handle_protocol(struct lists *lists, uint64_t handle, uint8_t guid);
-uint64_t plain_connect(struct lists *lists, uint64_t controller);
+uint64_t plain_connect(struct lists *lists, uint64_t controller, bool is_recursive);
 uint64_t plain_disconnect(struct lists *lists, uint64_t handle, uint64_t driver);
 
 /* ---- What the drivers' part needs of the other ---- */
@@ -119,11 +121,16 @@ uint64_t plain_disconnect(struct lists *lists, uint64_t handle, uint64_t driver)
  * none. */
 uint64_t open_refusal(const struct lists *lists, const struct item *open);
 uint64_t make_handle(struct lists *lists);
-void push_interface(struct lists *lists, uint64_t handle, uint8_t guid, uint64_t value);
 void push_item(struct lists *lists, const struct item *item);
 
-/* Takes out an interface with the items on it, and with the last one its handle; a handle with all
- * that names it. */
+/* Installs an interface, or gives one another value where it is: it has a new stamp, and the events
+ * of its GUID are returned. */
+void push_interface(struct lists *lists, uint64_t handle, uint8_t guid, uint64_t value);
+void replace_value(struct lists *lists, uint64_t handle, uint8_t guid, uint64_t value);
+
+/* Takes out the items on an interface; an interface, and with the last one its handle; a handle
+ * with all that names it. */
+void drop_items(struct lists *lists, uint64_t handle, uint8_t guid);
 void drop_interface(struct lists *lists, uint64_t handle, uint8_t guid);
 void drop_handle(struct lists *lists, uint64_t handle);
 

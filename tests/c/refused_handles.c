@@ -2,9 +2,10 @@
  * of a call and all after it, then from the second on, and so on until the call is served; each
  * allocation alone; and all that goes past an amount of bytes, for each amount. A call that is
  * refused memory returns OUT_OF_RESOURCES and leaves all handles, interfaces, open items and what
- * is in memory as they were, and one that is refused none is served. The heap is that of
- * refusing_heap.h, instead of the library's. Each point that does not hold is printed on standard
- * error, and then the status is 1. */
+ * is in memory as they were, and one that is refused none is served. An interface that
+ * UninstallMultipleProtocolInterfaces took out comes back where memory runs out at a later one. The
+ * heap is that of refusing_heap.h, instead of the library's. Each point that does not hold is
+ * printed on standard error, and then the status is 1. */
 #include "points.h"
 #include "refusing_heap.h"
 #include "small_core.h"
@@ -111,7 +112,7 @@ static struct state before, after;
 
 /* ---- Calls ---- */
 
-enum kind { INSTALL, OPEN, REGISTER, UNINSTALL, REINSTALL, CONNECT, DISCONNECT };
+enum kind { INSTALL, OPEN, REGISTER, UNINSTALL, UNINSTALL_ALL, REINSTALL, CONNECT, DISCONNECT };
 
 /* A call: what it names beside its kind. */
 struct call {
@@ -124,6 +125,18 @@ struct call {
 
 /* The numbers of the next handle and of the next registration of a core, which no refusal takes. */
 static uint64_t handles, registrations;
+
+/* Uninstalls all interfaces on a handle in one call, in order of installation. */
+static uint64_t uninstall_all(struct rafkudin *core, uint64_t handle)
+{
+    struct rafkudin_interface interfaces[3];
+    size_t count = 0;
+
+    while (RafkudinInterface(core, handle, count, &interfaces[count]) == SUCCESS)
+        if (++count == COUNT(interfaces))
+            abort();
+    return RafkudinUninstallMultipleProtocolInterfaces(core, handle, interfaces, count);
+}
 
 static uint64_t make(struct rafkudin *core, const struct call *call)
 {
@@ -144,6 +157,8 @@ static uint64_t make(struct rafkudin *core, const struct call *call)
         return status;
     case UNINSTALL:
         return RafkudinUninstallProtocolInterface(core, handle, &guid, call->number);
+    case UNINSTALL_ALL:
+        return uninstall_all(core, handle);
     case REINSTALL:
         return RafkudinReinstallProtocolInterface(core, handle, &guid, call->number, handle);
     case CONNECT:
@@ -284,6 +299,32 @@ static void refuse_uninstallations(void)
     RafkudinFree(core);
 }
 
+/* A call uninstalls both interfaces of a handle: first one that nobody has open, then one that a
+ * driver with a child has open on one handle in two. A copy of the lists takes memory before either
+ * is out, and the stop of the driver once the first one is out, which then comes back. */
+static void refuse_uninstallations_of_all(void)
+{
+    struct rafkudin_driver driver = driver_for(1, DRIVEN, DRIVEN);
+    struct rafkudin *core;
+
+    add_child(&driver, 3, 0);
+    core = core_with(&driver, 1);
+    succeed(core, (struct call){INSTALL, 0, BINDING, 0, 0});
+    for (uint64_t handle = 2; handle < ROUNDS + 2; handle++) {
+        succeed(core, (struct call){INSTALL, 0, 2, 0, 0});
+        succeed(core, (struct call){INSTALL, handle, DRIVEN, 0, 0});
+    }
+    for (uint64_t handle = 2; handle < ROUNDS + 2; handle += 2)
+        succeed(core, (struct call){CONNECT, handle, 0, 0, 0});
+    for (uint64_t handle = 2; handle < ROUNDS + 2; handle += 2) {
+        unsigned long driven = refusals_of(core, (struct call){UNINSTALL_ALL, handle, 0, 0, 0});
+        unsigned long plain = refusals_of(core, (struct call){UNINSTALL_ALL, handle + 1, 0, 0, 0});
+
+        HOLDS(plain > 0 && driven > plain);
+    }
+    RafkudinFree(core);
+}
+
 /* Reinstallations that stop a driver and start it again, on a number of handles one after the
  * other. The driver makes a child with a GUID, if that is not 0. */
 static void refuse_reinstallations(uint8_t child, uint64_t handles)
@@ -374,7 +415,8 @@ static bool is_refused_with(struct rafkudin *(*made)(void), struct call call, si
     most_bytes = SIZE_MAX;
     if (status != SUCCESS) {
         HOLDS(status == RAFKUDIN_OUT_OF_RESOURCES && was_refused);
-        HOLDS(in_use == used || may_grow);
+        /* A copy of the lists that is put back may take less memory than they did. */
+        HOLDS(in_use == used || may_grow || (call.kind == UNINSTALL_ALL && in_use < used));
         take_whole(&after, core);
         HOLDS(are_same(&before, &after));
         HOLDS(make(core, &call) == SUCCESS);
@@ -431,18 +473,20 @@ static void try_drivers(void)
 {
     struct call connect = {CONNECT, 1, 0, 3, 0}, disconnect = {DISCONNECT, 1, 0, 0, 0};
     struct call stop = {OPEN, 1, 2, 9, RAFKUDIN_EXCLUSIVE}, uninstall = {UNINSTALL, 1, 2, 6, 0};
-    struct call reinstall = {REINSTALL, 1, 2, 6, 0};
+    struct call reinstall = {REINSTALL, 1, 2, 6, 0}, uninstall_both = {UNINSTALL_ALL, 1, 0, 0, 0};
 
     try_by_hand();
     try_amounts(free_controller, connect, true);
     try_amounts(managed_controller, disconnect, false);
     try_amounts(opened_controller, stop, true);
     try_amounts(managed_controller, uninstall, false);
+    try_amounts(managed_controller, uninstall_both, false);
     try_amounts(managed_controller, reinstall, true);
     refuse_alone(free_controller, connect);
     refuse_alone(managed_controller, disconnect);
     refuse_alone(opened_controller, stop);
     refuse_alone(managed_controller, uninstall);
+    refuse_alone(managed_controller, uninstall_both);
     refuse_alone(managed_controller, reinstall);
 }
 
@@ -474,6 +518,7 @@ int main(void)
     refuse_opens();
     refuse_registrations();
     refuse_uninstallations();
+    refuse_uninstallations_of_all();
     refuse_reinstallations(0, ROUNDS);
     refuse_reinstallations(3, ROUNDS);
     refuse_reinstallations(BINDING, 10);

@@ -9,6 +9,7 @@ enum service {
     INSTALL,
     INSTALL_MANY,
     UNINSTALL,
+    REINSTALL,
     REGISTER,
     LOCATE_ALL,
     LOCATE_NEXT,
@@ -22,6 +23,7 @@ enum service {
     HANDLE_PROTOCOL,
     INFORMATION,
     CONNECT,
+    CONNECT_ALL,
     DISCONNECT,
     SERVICES
 };
