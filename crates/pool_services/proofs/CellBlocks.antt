@@ -1,5 +1,5 @@
 -- Blocks in the cells of an extent: the lowest fit, blocks by their cells and by addresses, and what changes keep.
-use Rattle.std.proofs.Common.{◌≡◌, ℕ, ◌+◌, ◌-◌, ◌*◌, ◌/◌, ◌%◌, ◌<◌, ◌≤◌, nat_le, max, Bool, true, false, cond, is_some, inl, inr, List, [], ◌∷◌, ◌++◌, length, take, drop, Option, Some, None, refl, sym, ap, ◌∙◌, arith, subst, eq-eqb, ne_eqb, lt-ltb, le-ltb, le-leb}
+use Rattle.std.proofs.Common.{◌≡◌, ℕ, ◌+◌, ◌-◌, ◌*◌, ◌/◌, ◌<◌, ◌≤◌, nat_le, max, Bool, true, false, cond, is_some, inl, inr, List, [], ◌∷◌, ◌++◌, length, take, drop, Option, Some, None, refl, sym, ap, ◌∙◌, arith, subst, eq-eqb, ne_eqb, lt-ltb, le-ltb, le-leb}
 use Rattle.std.specs.Option.{option_map}
 use Rattle.std.specs.Bool.{IsTrue}
 use Rattle.std.proofs.lemmas.Bool.{cases_lt, cases_eq, cases_Bool, and_parts, leb-true, lt-leb, and_left, and_right, and_from}
@@ -278,27 +278,32 @@ written-lies true c at bytes p = refl
 
 -- ---- as the code asks
 
-some-cell : (c : ℕ) (o : Option Block) → is_some (option_map (λ (b : Block). b.size) o) ≡ true → option_map (λ (b : Block). c) o ≡ Some c
+some-cell : (c : ℕ) (o : Option Block) → is_some o ≡ true → option_map (λ (b : Block). c) o ≡ Some c
 some-cell c None e = absurd cc
 some-cell c (Some b) e = refl
 
-no-cell : (c : ℕ) (o : Option Block) → is_some (option_map (λ (b : Block). b.size) o) ≡ false → option_map (λ (b : Block). c) o ≡ None
+no-cell : (c : ℕ) (o : Option Block) → is_some o ≡ false → option_map (λ (b : Block). c) o ≡ None
 no-cell c None e = refl
 no-cell c (Some b) e = absurd cc
 
-pub cell-then : (first address : ℕ) (o : Option ℕ) (bs : List Block) → address_of first 0 ≤ address → (address - 8 - 4096 * first) % 32 ≡ 0 →
-    o ≡ option_map (λ (b : Block). b.size) (block_at ((address - 8 - 4096 * first) / 32) bs) → is_some o ≡ true → Some ((address - 8 - 4096 * first) / 32) ≡ cell_of first address bs
-cell-then first address o bs l m e s =
-    let c : ℕ = (address - 8 - 4096 * first) / 32 in
-    let a : address_of first c ≡ address = omega arith in
-    sym (some-cell c (block_at c bs) (ap (λ (x : Option ℕ). is_some x) (sym e) ∙ s)) ∙ sym (cell-at first c bs) ∙ ap (λ (k : ℕ). cell_of first k bs) a
+pub some-size : (o : Option Block) (size : Option ℕ) → size ≡ option_map (λ (b : Block). b.size) o → is_some o ≡ is_some size
+some-size None size e = ap is_some (sym e)
+some-size (Some b) size e = ap is_some (sym e)
 
-pub cell-else : (first address : ℕ) (o : Option ℕ) (bs : List Block) → address_of first 0 ≤ address → (address - 8 - 4096 * first) % 32 ≡ 0 →
-    o ≡ option_map (λ (b : Block). b.size) (block_at ((address - 8 - 4096 * first) / 32) bs) → is_some o ≡ false → None ≡ cell_of first address bs
-cell-else first address o bs l m e s =
-    let c : ℕ = (address - 8 - 4096 * first) / 32 in
-    let a : address_of first c ≡ address = omega arith in
-    sym (no-cell c (block_at c bs) (ap (λ (x : Option ℕ). is_some x) (sym e) ∙ s)) ∙ sym (cell-at first c bs) ∙ ap (λ (k : ℕ). cell_of first k bs) a
+-- the block at a cell has the cell's address
+pub cell-here : (first address c : ℕ) (bs : List Block) → address ≡ address_of first c → is_some (block_at c bs) ≡ true → cell_of first address bs ≡ Some c
+cell-here first address c bs a s = ap (λ (k : ℕ). cell_of first k bs) a ∙ cell-at first c bs ∙ some-cell c (block_at c bs) s
+
+pub cell-free : (first address c : ℕ) (bs : List Block) → address ≡ address_of first c → is_some (block_at c bs) ≡ false → cell_of first address bs ≡ None
+cell-free first address c bs a s = ap (λ (k : ℕ). cell_of first k bs) a ∙ cell-at first c bs ∙ no-cell c (block_at c bs) s
+
+-- where no block is at a cell, none goes
+pub none-goes : (c : ℕ) (bs : List Block) → is_some (block_at c bs) ≡ false → without_block c bs ≡ bs
+none-goes c [] e = refl
+none-goes c (b ∷ bs) e = elim (cases_eq b.first c) [
+  | inl s ↦ let z : true ≡ false = rw (eq-eqb b.first c s) at e in absurd cc
+  | inr n ↦ rw (ne_eqb b.first c n) (ap (λ (ws : List Block). b ∷ ws) (none-goes c bs (rw (ne_eqb b.first c n) at e)))
+]
 
 pub located-at : (cells first address c : ℕ) (bs : List Block) → AreBlocks cells 0 bs → address_of first 0 ≤ address → c ≤ (address - 8 - 4096 * first) / 32 → is_some (block_at c bs) ≡ true →
     NoneBetween c ((address - 8 - 4096 * first) / 32) bs →

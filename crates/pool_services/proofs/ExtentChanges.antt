@@ -1,5 +1,5 @@
 -- What the calls do to one extent of the pool.
-use Rattle.std.proofs.Common.{◌≡◌, ℕ, zero, suc, ◌+◌, ◌<◌, ◌≤◌, ◌==◌, nat_le, slice_index_or, Result, Ok, Err, eq-eqb, ne_eqb, add-one, Bool, true, false, is_some, inl, inr, List, [], ◌∷◌, ◌++◌, length, take, drop, set, Option, Some, None, refl, sym, ap, ◌∙◌, arith, subst}
+use Rattle.std.proofs.Common.{◌≡◌, ◌≢◌, ℕ, zero, suc, ◌+◌, ◌<◌, ◌≤◌, ◌==◌, nat_le, slice_index_or, Result, Ok, Err, eq-eqb, ne_eqb, add-one, Bool, true, false, is_some, inl, inr, List, [], ◌∷◌, ◌++◌, length, take, drop, set, Option, Some, None, refl, sym, ap, ◌∙◌, arith, subst}
 use Rattle.std.specs.List.{insert}
 use Rattle.std.specs.Bool.{IsTrue}
 use Rattle.page_ranges.specs.declared.ranges.PageRange.{PageRange}
@@ -14,7 +14,9 @@ use Rattle.std.proofs.lemmas.Bool.{and_parts, eqb-true, cases_eq}
 use Rattle.raw_pool.specs.Blocks.{Block, block_at, cells_for, longest_run, lowest_fit, new_block, with_block, without_block}
 use Rattle.pool_services.specs.Extents.{Extent, Place, AreExtents, IsExtent, address_of, at_cell, begins_at, cell_of, cells_in, ended, fit_in, left_of, range_if_ended, range_of, tail_at, tail_in, with_blocks, with_extent, written_in}
 use Rattle.pool_services.specs.Regions.{with_block_at}
-use Rattle.pool_services.specs.Searches.{HasRoom, place, HoldsAddress, IsAt, IsFirstWithRoom, IsFound, IsGivable, IsGivenIn, IsHolder, IsWrittenIn, written_if, IsTakenAt, IsTakenLive, has_run}
+use Rattle.pool_services.specs.declared.extents.Freed.{Freed}
+use Rattle.pool_services.specs.declared.extents.Freed.TheVariants.{Back, Last, NoBlock}
+use Rattle.pool_services.specs.Searches.{HasOneBlock, HasRoom, place, HoldsAddress, IsAt, IsFirstWithRoom, IsFound, IsFreed, IsFreedAt, IsGivenIn, IsHolder, IsWrittenIn, written_if, IsTakenAt, IsTakenLive, has_run}
 use Rattle.pool_services.proofs.CellBlocks.{are-with, are-without, are-written, count-with, count-without, count-written-in, fits}
 use Rattle.pool_services.proofs.ExtentLists.{all-at, are-set, fit-here, fit-none, are-gone, gone-is, insert-is, is-extent, place-here, set-is, set-same, tail-here, written-is}
 
@@ -147,7 +149,7 @@ cell-later c b bs e = elim (cases_eq b.first c) [
   | inr n ↦ rw (ne_eqb b.first c n) e
 ]
 
-cell-block : (first address c : ℕ) (bs : List Block) → cell_of first address bs ≡ Some c → is_some (block_at c bs) ≡ true
+pub cell-block : (first address c : ℕ) (bs : List Block) → cell_of first address bs ≡ Some c → is_some (block_at c bs) ≡ true
 cell-block first address c [] e = absurd cc
 cell-block first address c (b ∷ bs) e = elim (cases_eq (address_of first b.first) address) [
   | inl s ↦
@@ -157,13 +159,12 @@ cell-block first address c (b ∷ bs) e = elim (cases_eq (address_of first b.fir
   | inr n ↦ cell-later c b bs (cell-block first address c bs (rw (ne_eqb (address_of first b.first) address n) at e))
 ]
 
-pub found-none : (address : ℕ) (es : List Extent) (i : ℕ) (x : Extent) → AreExtents es → IsHolder es address (Some i) → x ≡ slice_index_or es i x → None ≡ cell_of x.first address x.blocks → IsFound address es None
-found-none address es i x a h s n = let k = held-at address es i x h s in place-here address es i x a k.0 k.1 ∙ ap (λ (o : Option ℕ). at_cell x.first o) (sym n)
+pub found-none : (address : ℕ) (es : List Extent) (i : ℕ) (x : Extent) → AreExtents es → IsAt es i x → HoldsAddress x address → cell_of x.first address x.blocks ≡ None → IsFound address es None
+found-none address es i x a h u n = place-here address es i x a h u ∙ ap (λ (o : Option ℕ). at_cell x.first o) n
 
-pub found-some : (address : ℕ) (es : List Extent) (i c : ℕ) (x : Extent) → AreExtents es → IsHolder es address (Some i) → x ≡ slice_index_or es i x → Some c ≡ cell_of x.first address x.blocks → IsFound address es (Some (i, c))
-found-some address es i c x a h s n =
-    let k = held-at address es i x h s in
-    (x, k.0, cell-block x.first address c x.blocks (sym n), place-here address es i x a k.0 k.1 ∙ ap (λ (o : Option ℕ). at_cell x.first o) (sym n), a)
+pub found-some : (address : ℕ) (es : List Extent) (i c : ℕ) (x : Extent) → AreExtents es → IsAt es i x → HoldsAddress x address → cell_of x.first address x.blocks ≡ Some c → IsFound address es (Some (i, c))
+found-some address es i c x a h u n =
+    (x, h, cell-block x.first address c x.blocks n, place-here address es i x a h u ∙ ap (λ (o : Option ℕ). at_cell x.first o) n, a)
 
 -- ---- a block is given back
 
@@ -183,30 +184,32 @@ pub some-left : (e : Extent) (bs : List Block) → 0 < length bs → (range_if_e
 some-left e [] l = absurd (omega arith)
 some-left e (b ∷ bs) l = (refl, refl)
 
-pub given-returned : (es : List Extent) (i c : ℕ) (x y : Extent) → AreExtents es → IsGivable i c es → x ≡ slice_index_or es i x → y ≡ with_blocks (without_block c x.blocks) x → IsGivenIn i c es (set es i y)
-given-returned es i c x y a (e, h, b, n) s d =
-    let g : IsAt es i x = (h.0, s) in
-    let same : e ≡ x = same-at es i e x h g in
-    let bx : is_some (block_at c x.blocks) ≡ true = subst (λ (z : Extent). is_some (block_at c z.blocks) ≡ true) same b in
-    let nx : length x.blocks ≡ 1 → ⊥ = subst (λ (z : Extent). length z.blocks ≡ 1 → ⊥) same n in
-    let left = some-left x (without_block c x.blocks) (omega (arith, nx, count-without c x.blocks bx)) in (
+pub given-returned : (es : List Extent) (i c : ℕ) (x : Extent) → AreExtents es → IsAt es i x → is_some (block_at c x.blocks) ≡ true → (length x.blocks ≢ 1) → IsGivenIn i c es (set es i (with_blocks (without_block c x.blocks) x))
+given-returned es i c x a g b n =
+    let left = some-left x (without_block c x.blocks) (omega (arith, n, count-without c x.blocks b)) in (
       x,
       g,
-      ap (λ (z : Extent). set es i z) d ∙ set-is (λ (z : Extent). left_of z (without_block c z.blocks)) (with_blocks (without_block c x.blocks) x) es i x a g left.1,
+      set-is (λ (z : Extent). left_of z (without_block c z.blocks)) (with_blocks (without_block c x.blocks) x) es i x a g left.1,
       ended-at c es i x a g ∙ left.0,
-      λ k. ap (λ (z : Extent). extent_type k (set es i z)) d ∙ set-type k es i x (with_blocks (without_block c x.blocks) x) g refl refl,
+      λ k. set-type k es i x (with_blocks (without_block c x.blocks) x) g refl refl,
     )
 
-pub is-left : (es : List Extent) (i c : ℕ) (x y : Extent) → AreExtents es → IsGivable i c es → x ≡ slice_index_or es i x → y ≡ with_blocks (without_block c x.blocks) x → IsExtent y
-is-left es i c x y a (e, h, b, n) s d =
-    let g : IsAt es i x = (h.0, s) in
-    let same : e ≡ x = same-at es i e x h g in
-    let bx : is_some (block_at c x.blocks) ≡ true = subst (λ (z : Extent). is_some (block_at c z.blocks) ≡ true) same b in
-    let nx : length x.blocks ≡ 1 → ⊥ = subst (λ (z : Extent). length z.blocks ≡ 1 → ⊥) same n in
-    subst IsExtent (sym d) (is-given x c (is-extent es i x a g) (omega (arith, nx, count-without c x.blocks bx)))
+-- ---- what comes of giving a block back in an extent, for this and all extents
 
-pub are-given : (es : List Extent) (i c : ℕ) (x y : Extent) → AreExtents es → IsGivable i c es → x ≡ slice_index_or es i x → y ≡ with_blocks (without_block c x.blocks) x → AreExtents (set es i y)
-are-given es i c x y a k s d = let (e, h, b, n) = k in are-set es i x y a (h.0, s) (is-left es i c x y a k s d) (ap (λ (z : Extent). z.first) d) (ap (λ (z : Extent). z.pages) d)
+pub is-freed : (address : ℕ) (x y : Extent) (freed : Freed) → IsExtent x → IsFreed address x freed y → IsExtent y
+is-freed address x y NoBlock v (n, e) = subst IsExtent (sym e) v
+is-freed address x y Back v (c, f, n, e) = subst IsExtent (sym e) (is-given x c v (omega (arith, n, count-without c x.blocks (cell-block x.first address c x.blocks f))))
+is-freed address x y (Last c) v (f, n, e) = subst IsExtent (sym e) v
+
+pub freed-alike : (address : ℕ) (x y : Extent) (freed : Freed) → IsFreed address x freed y → (y.first ≡ x.first) × (y.pages ≡ x.pages) × (y.mtype ≡ x.mtype)
+freed-alike address x y NoBlock (n, e) = (ap (λ (z : Extent). z.first) e, ap (λ (z : Extent). z.pages) e, ap (λ (z : Extent). z.mtype) e)
+freed-alike address x y Back (c, f, n, e) = (ap (λ (z : Extent). z.first) e, ap (λ (z : Extent). z.pages) e, ap (λ (z : Extent). z.mtype) e)
+freed-alike address x y (Last c) (f, n, e) = (ap (λ (z : Extent). z.first) e, ap (λ (z : Extent). z.pages) e, ap (λ (z : Extent). z.mtype) e)
+
+pub are-freed : (address i : ℕ) (es new : List Extent) (freed : Freed) → AreExtents es → IsFreedAt i address es freed new → AreExtents new
+are-freed address i es new freed a (x, y, g, f, n) =
+    let k = freed-alike address x y freed f in
+    subst AreExtents (sym n) (are-set es i x y a g (is-freed address x y freed (is-extent es i x a g) f) k.0 k.1)
 
 pub freed-in : (b : Book) (es : List Extent) (address i c : ℕ) (new : List Extent) → IsFound address es (Some (i, c)) → IsGivenIn i c es new → FreesPool b es address (Ok tt) b new
 freed-in b es address i c new (e, h, k, p, a) (x, g, n, d, o) =
@@ -221,10 +224,9 @@ IsEnded i b es (Ok done) new_b new =
     × (new ≡ take i es ++ drop (i + 1) es)
 IsEnded i b es (Err status) new_b new = ⊥
 
-pub freed-ended : (b : Book) (es : List Extent) (address i c : ℕ) (x : Extent) (result : Result (Unit {0}) Status) (new_b : Book) (new : List Extent) → IsFound address es (Some (i, c)) → x ≡ slice_index_or es i x → length x.blocks ≡ 1 → IsEnded i b es result new_b new →
-    FreesPool b es address result new_b new
-freed-ended b es address i c x (Ok done) new_b new (e, h, k, p, a) s l (y, g, nb, n) =
-    let xe : x ≡ e = same-at es i x e (h.0, s) h in
+pub freed-ended : (b : Book) (es : List Extent) (address i c : ℕ) (result : Result (Unit {0}) Status) (new_b : Book) (new : List Extent) → IsFound address es (Some (i, c)) → HasOneBlock i es → IsEnded i b es result new_b new → FreesPool b es address result new_b new
+freed-ended b es address i c (Ok done) new_b new (e, h, k, p, a) (x, s, l) (y, g, nb, n) =
+    let xe : x ≡ e = same-at es i x e s h in
     let le : length e.blocks ≡ 1 = subst (λ (z : Extent). length z.blocks ≡ 1) xe l in
     let none : without_block c e.blocks ≡ [] = none-left (without_block c e.blocks) (omega (arith, le, count-without c e.blocks k)) in
     let range : ended (record { first = e.first; cell = c }) es ≡ Some (range_of e) = ended-at c es i e a h ∙ ap (λ (bs : List Block). range_if_ended e bs) none in (
@@ -233,7 +235,7 @@ freed-ended b es address i c x (Ok done) new_b new (e, h, k, p, a) s l (y, g, nb
       nb ∙ ap (λ (z : Extent). given_back (range_of z) b) (same-at es i y e g h) ∙ sym (ap (λ (o : Option PageRange). given_if o b) range),
       n ∙ ap (λ (j : ℕ). take i es ++ drop j es) (add-one i) ∙ gone-is (λ (z : Extent). left_of z (without_block c z.blocks)) es i e a h (ap (λ (bs : List Block). left_of e bs) none),
     )
-freed-ended b es address i c x (Err status) new_b new f s l n = absurd n
+freed-ended b es address i c (Err status) new_b new f o n = absurd n
 
 pub owns-new-block : (m : List Page) (t size address : ℕ) (es new : List Extent) → OwnsExtents m es → IsTakenLive t size es (Some address) new → OwnsExtents m new
 owns-new-block m t size address es new owns (p, f, d, n) k =

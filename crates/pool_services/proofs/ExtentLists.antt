@@ -6,7 +6,7 @@ use Rattle.std.proofs.lemmas.Bool.{cases_lt, cases_eq, cases_Bool, false_from_ne
 use Rattle.std.proofs.lemmas.List.{set_split}
 use Rattle.raw_pool.specs.Blocks.{cells_for, longest_run, lowest_fit}
 use Rattle.pool_services.specs.Extents.{Extent, Place, AreExtents, IsExtent, address_of, at_cell, begins_at, cell_of, cells_in, first_fit, fit_in, has_tail, or_else, place_of, replaced, tail_at, tail_in, with_blocks, with_extent, written, written_in}
-use Rattle.pool_services.specs.Searches.{HasRoom, HoldsAddress, IsAt, has_run, passing, place}
+use Rattle.pool_services.specs.Searches.{HasRoom, HoldsAddress, HasPage, IsAt, IsHolder, IsPageHolder, has_run, passing, place}
 use Rattle.pool_services.proofs.CellBlocks.{cell-low, cell-high, tail-low, tail-high, fits}
 
 -- ---- one of the extents
@@ -75,22 +75,19 @@ passing-place p (x ∷ xs) h =
       | inr e ↦ rw e (none-passing p xs (λ k d l. false_from_ne_true (p (get_or xs k d)) (λ c. true≢false (sym (h 0 (suc k) d (omega arith) (omega (arith, l)) c) ∙ e))))
     ]
 
--- ---- the extent that holds an address
-
-low-none : (address : ℕ) (es : List Extent) → address < 8 → AllByRecursion (λ e. ¬ HoldsAddress e address) es
-low-none address [] l = tt
-low-none address (e ∷ es) l = ((λ h. omega (arith, h.0)), low-none address es l)
+-- ---- the extent that holds a page or an address
 
 pub none-below : (address : ℕ) (es : List Extent) → address < 8 → AllByRecursion (λ e. ¬ HoldsAddress e address) es
-none-below address es l = low-none address es l
+none-below address [] l = tt
+none-below address (e ∷ es) l = ((λ h. omega (arith, l, h.0)), none-below address es l)
 
-above-none : (page address : ℕ) (es : List Extent) → 8 ≤ address → page ≡ (address - 8) / 4096 → AllByRecursion (λ e. page < e.first) es → AllByRecursion (λ e. ¬ HoldsAddress e address) es
-above-none page address es l p a = all-map (λ e. page < e.first) (λ e. ¬ HoldsAddress e address) (λ e u h. omega (arith, h.0)) es a
+above-none : (page : ℕ) (es : List Extent) → AllByRecursion (λ e. page < e.first) es → AllByRecursion (λ e. ¬ HasPage e page) es
+above-none page es a = all-map (λ e. page < e.first) (λ e. ¬ HasPage e page) (λ e u h. omega (arith, u, h.0)) es a
 
-pub first-above : (page address : ℕ) (es : List Extent) → AreExtents es → 8 ≤ address → page ≡ (address - 8) / 4096 → place (λ (e : Extent). nat_le e.first page) es ≡ 0 → AllByRecursion (λ e. ¬ HoldsAddress e address) es
-first-above page address [] a l p n = tt
-first-above page address (e ∷ es) a l p n = elim (cases_lt page e.first) [
-  | inl g ↦ ((λ h. omega (arith, h.0)), above-none page address es l p (all-map (λ x. e.first + e.pages ≤ x.first) (λ x. page < x.first) (λ x h. omega (arith, h)) es a.1))
+pub first-above : (page : ℕ) (es : List Extent) → AreExtents es → place (λ (e : Extent). nat_le e.first page) es ≡ 0 → AllByRecursion (λ e. ¬ HasPage e page) es
+first-above page [] a n = tt
+first-above page (e ∷ es) a n = elim (cases_lt page e.first) [
+  | inl g ↦ ((λ h. omega (arith, g, h.0)), above-none page es (all-map (λ x. e.first + e.pages ≤ x.first) (λ x. page < x.first) (λ x h. omega (arith, g, h)) es a.1))
   | inr g ↦ let z : suc (place (λ (e : Extent). nat_le e.first page) es) ≡ 0 = rw (le-leb e.first page g) at n in absurd (omega arith)
 ]
 
@@ -106,21 +103,23 @@ last-up-to page [] i e n h = absurd (omega (arith, h.0))
 last-up-to page (x ∷ xs) zero e n h = let c = counted page x xs 0 n in omega (arith, c.0, ap (λ (y : Extent). y.first) h.1)
 last-up-to page (x ∷ xs) (suc i) e n h = let c = counted page x xs (suc i) n in last-up-to page xs i e c.1 (omega (arith, h.0), h.1)
 
-pub behind-none : (page address : ℕ) (es : List Extent) (i : ℕ) (e : Extent) → AreExtents es → 8 ≤ address → page ≡ (address - 8) / 4096 → place (λ (x : Extent). nat_le x.first page) es ≡ suc i → IsAt es i e → e.first + e.pages ≤ page →
-    AllByRecursion (λ e. ¬ HoldsAddress e address) es
-behind-none page address [] i e a l p n h b = tt
-behind-none page address (x ∷ xs) zero e a l p n h b =
+pub behind-none : (page : ℕ) (es : List Extent) (i : ℕ) (e : Extent) → AreExtents es → place (λ (x : Extent). nat_le x.first page) es ≡ suc i → IsAt es i e → e.first + e.pages ≤ page → AllByRecursion (λ e. ¬ HasPage e page) es
+behind-none page [] i e a n h b = tt
+behind-none page (x ∷ xs) zero e a n h b =
     let c = counted page x xs 0 n in
     let f = ap (λ (y : Extent). y.first + y.pages) h.1 in
-    ((λ u. omega (arith, u.1, f)), first-above page address xs a.2 l p c.1)
-behind-none page address (x ∷ xs) (suc i) e a l p n h b =
+    ((λ u. omega (arith, b, u.1, f)), first-above page xs a.2 c.1)
+behind-none page (x ∷ xs) (suc i) e a n h b =
     let c = counted page x xs (suc i) n in
     let t : IsAt xs i e = (omega (arith, h.0), h.1) in
     let u = all-at (λ y. x.first + x.pages ≤ y.first) xs i e a.1 t in
-    ((λ v. omega (arith, v.1, u)), behind-none page address xs i e a.2 l p c.1 t b)
+    ((λ v. omega (arith, b, v.1, u)), behind-none page xs i e a.2 c.1 t b)
 
-pub holds : (page address : ℕ) (e : Extent) → 8 ≤ address → page ≡ (address - 8) / 4096 → e.first ≤ page → page < e.first + e.pages → HoldsAddress e address
-holds page address e l p u v = (omega arith, omega arith)
+-- the extent that holds an address is that of its page
+pub address-holder : (page address : ℕ) (es : List Extent) (o : Option ℕ) → 8 ≤ address → page ≡ (address - 8) / 4096 → IsPageHolder es page o → IsHolder es address o
+address-holder page address es None l p h =
+    all-map (λ e. ¬ HasPage e page) (λ e. ¬ HoldsAddress e address) (λ e n u. n (omega (arith, l, p, u.0), omega (arith, l, p, u.1))) es h
+address-holder page address es (Some i) l p (e, t, u) = (e, t, (omega (arith, l, p, u.0), omega (arith, l, p, u.1)))
 
 -- ---- blocks by addresses, in the extent that holds them
 

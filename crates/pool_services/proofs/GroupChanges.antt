@@ -7,9 +7,14 @@ use Rattle.raw_pool.specs.Blocks.{without_block}
 use Rattle.pool_services.specs.Extents.{Extent, AreExtents, with_blocks, with_extent}
 use Rattle.pool_services.specs.Groups.{AreApart, AreUsed, HasPlace, HasPlaceAt, IsGroupOf, joined, rows_of, without_extent}
 use Rattle.pool_services.specs.Regions.{with_block_at}
-use Rattle.pool_services.specs.Searches.{IsAt, IsGivable, IsGivenAt, IsGivenIn, IsFirstWithRoom, IsHolder, IsTakenAt, IsWrittenAt, IsWrittenIn, has_run, written_if}
+use Rattle.pool_services.specs.Searches.{HoldsAddress, IsAt, IsFirstWithRoom, IsFreedAt, IsGivenIn, IsHolder, IsTakenAt, IsWrittenAt, IsWrittenIn, has_run, written_if}
+use Rattle.pool_services.specs.Spots.{IsFreedFrom, IsHolderIn, index_of}
 use Rattle.pool_services.specs.declared.extent_group.ExtentGroup.{ExtentGroup}
-use Rattle.pool_services.proofs.ExtentChanges.{are-given, are-returned, are-taken, given-returned, written-returned}
+use Rattle.pool_services.specs.declared.extent_groups.Spot.{Spot}
+use Rattle.pool_services.specs.declared.extents.Freed.{Freed}
+use Rattle.pool_services.specs.declared.extents.Freed.TheVariants.{Back, Last, NoBlock}
+use Rattle.pool_services.proofs.ExtentChanges.{are-returned, are-taken, cell-block, found-none, found-some, given-returned, held-at, written-returned}
+use Rattle.pool_services.proofs.ExtentLists.{set-same}
 use Rattle.page_ranges.proofs.Members.{all_append}
 use Rattle.pool_services.proofs.GroupLists.{all-rows, apart-row, at-all, gone-all, joined-gone, joined-more, joined-split, more-all, parts, row, row-of, set-all, set-parts, set-row-same, take-in-parts, used-gone, used-same, used-set, used-split}
 
@@ -39,9 +44,6 @@ at-group rows k i e l h t =
     let a = joined (take k rows) in let c = joined (drop (suc k) rows) in let g = row rows k in
     (h, t.1 ∙ ap (λ es. get_or es (length a + i) e) (parts rows k l) ∙ get_or-append-add a (g ++ c) i e ∙ get_or_append_left g c e i h)
 
-pub givable-in : (rows : List (List Extent)) (k i c : ℕ) → k < length rows → i < length (row rows k) → IsGivable (length (joined (take k rows)) + i) c (joined rows) → IsGivable i c (row rows k)
-givable-in rows k i c l h (e, t, b, n) = (e, at-group rows k i e l h t, b, n)
-
 -- ---- one extent changes
 
 same-row : (rows : List (List Extent)) (k : ℕ) (new : List Extent) → k < length rows → new ≡ row rows k → joined (set rows k new) ≡ joined rows
@@ -59,9 +61,9 @@ pub taken-length : (g new : List Extent) (i size : ℕ) (result : Option ℕ) �
 taken-length g new i size None (n, f) = ap (λ es. length es) n
 taken-length g new i size (Some address) (e, c, t, f, a, n) = ap (λ es. length es) n ∙ length-set g i (with_block_at c size e)
 
-pub given-all : (rows : List (List Extent)) (k i c : ℕ) (new : List Extent) → k < length rows → i < length (row rows k) → IsGivenAt i c (row rows k) new →
-    IsGivenAt (length (joined (take k rows)) + i) c (joined rows) (joined (set rows k new))
-given-all rows k i c new l h (e, t, n) = (e, at-all rows k i e l t, changed rows k i (with_blocks (without_block c e.blocks) e) new l h n)
+pub freed-all : (rows : List (List Extent)) (k i address : ℕ) (freed : Freed) (new : List Extent) → k < length rows → i < length (row rows k) → IsFreedAt i address (row rows k) freed new →
+    IsFreedAt (length (joined (take k rows)) + i) address (joined rows) freed (joined (set rows k new))
+freed-all rows k i address freed new l h (e, y, t, f, n) = (e, y, at-all rows k i e l t, f, changed rows k i y new l h n)
 
 pub written-all : (rows : List (List Extent)) (k i address : ℕ) (bytes : List ℕ) (done : Bool) (new : List Extent) → k < length rows → i < length (row rows k) → IsWrittenAt i address bytes (row rows k) done new →
     IsWrittenAt (length (joined (take k rows)) + i) address bytes (joined rows) done (joined (set rows k new))
@@ -73,14 +75,27 @@ pub taken-apart : (es new : List Extent) (i size : ℕ) (result : Option ℕ) �
 taken-apart es new i size None a (n, f) = subst AreExtents (sym n) a
 taken-apart es new i size (Some address) a (e, c, t, f, d, n) = subst AreExtents (sym n) (are-taken es i size c e (with_block_at c size e) a t refl f)
 
-pub given-in : (es new : List Extent) (i c : ℕ) → AreExtents es → IsGivable i c es → IsGivenAt i c es new → IsGivenIn i c es new
-given-in es new i c a k (e, t, n) = subst (IsGivenIn i c es) (sym n) (given-returned es i c e (with_blocks (without_block c e.blocks) e) a k t.1 refl)
+pub freed-length : (g new : List Extent) (i address : ℕ) (freed : Freed) → IsFreedAt i address g freed new → length new ≡ length g
+freed-length g new i address freed (e, y, t, f, n) = ap (λ es. length es) n ∙ length-set g i y
 
-pub given-apart : (es new : List Extent) (i c : ℕ) → AreExtents es → IsGivable i c es → IsGivenAt i c es new → AreExtents new
-given-apart es new i c a k (e, t, n) = subst AreExtents (sym n) (are-given es i c e (with_blocks (without_block c e.blocks) e) a k t.1 refl)
+held : (address i : ℕ) (es : List Extent) (e : Extent) → IsHolder es address (Some i) → IsAt es i e → HoldsAddress e address
+held address i es e h t = (held-at address es i e h t.1).1
 
-pub given-length : (g new : List Extent) (i c : ℕ) → IsGivenAt i c g new → length new ≡ length g
-given-length g new i c (e, t, n) = ap (λ es. length es) n ∙ length-set g i (with_blocks (without_block c e.blocks) e)
+stays : (rows : List (List Extent)) (k i : ℕ) (e y : Extent) (new : List Extent) → IsAt (row rows k) i e → y ≡ e → new ≡ set (row rows k) i y → set rows k new ≡ rows
+stays rows k i e y new t q n = ap (λ es. set rows k es) (n ∙ ap (λ (z : Extent). set (row rows k) i z) q ∙ set-same (row rows k) i e t) ∙ set-row-same rows k
+
+pub freed-from : (rows : List (List Extent)) (s : Spot) (address : ℕ) (freed : Freed) (new : List Extent) → AreExtents (joined rows) → IsHolderIn address rows (Some s) → IsFreedAt s.at address (row rows s.group) freed new →
+    IsFreedFrom s address rows freed (set rows s.group new)
+freed-from rows s address NoBlock new a h (e, y, t, (f, q), n) =
+    let u = at-all rows s.group s.at e h.0.0 t in
+    (found-none address (joined rows) (index_of rows s) e a u (held address (index_of rows s) (joined rows) e h.1 u) f, stays rows s.group s.at e y new t q n)
+freed-from rows s address Back new a h (e, y, t, (c, f, m, q), n) =
+    let es = joined rows in let i = index_of rows s in let u = at-all rows s.group s.at e h.0.0 t in
+    let b : set es i (with_blocks (without_block c e.blocks) e) ≡ joined (set rows s.group new) = sym (changed rows s.group s.at y new h.0.0 h.0.1 n ∙ ap (λ (z : Extent). set es i z) q) in
+    (c, found-some address es i c e a u (held address i es e h.1 u) f, subst (IsGivenIn i c es) b (given-returned es i c e a u (cell-block e.first address c e.blocks f) m))
+freed-from rows s address (Last c) new a h (e, y, t, (f, m, q), n) =
+    let es = joined rows in let i = index_of rows s in let u = at-all rows s.group s.at e h.0.0 t in
+    (found-some address es i c e a u (held address i es e h.1 u) f, (e, u, m), stays rows s.group s.at e y new t q n)
 
 pub written-in : (es new : List Extent) (i address : ℕ) (bytes : List ℕ) (done : Bool) → AreExtents es → IsHolder es address (Some i) → IsWrittenAt i address bytes es done new → IsWrittenIn address bytes es done new
 written-in es new i address bytes done a h (e, t, r, n) = subst (IsWrittenIn address bytes es done) (sym n) (written-returned address bytes es i e (written_if done address bytes e) done a h t.1 r refl)
@@ -115,10 +130,11 @@ module _ {A : Type 0} (gs : List (ExtentGroup A)) (k : ℕ) (g new : ExtentGroup
       subst (IsTakenAt (length (joined (take k (rows_of gs))) + i) size (joined (rows_of gs)) result) joined-set
       (taken-all (rows_of gs) k i size result new.extents.items within (spot-in i h) (subst (λ es. IsTakenAt i size es result new.extents.items) (sym (group-row gs k g l e)) t))
 
-  pub given-groups : (i c : ℕ) → i < length g.extents.items → IsGivenAt i c g.extents.items new.extents.items → IsGivenAt (length (joined (take k (rows_of gs))) + i) c (joined (rows_of gs)) (joined (rows_of (set gs k new)))
-  given-groups i c h t =
-      subst (IsGivenAt (length (joined (take k (rows_of gs))) + i) c (joined (rows_of gs))) joined-set
-      (given-all (rows_of gs) k i c new.extents.items within (spot-in i h) (subst (λ es. IsGivenAt i c es new.extents.items) (sym (group-row gs k g l e)) t))
+  pub freed-groups : (i address : ℕ) (freed : Freed) → i < length g.extents.items → IsFreedAt i address g.extents.items freed new.extents.items →
+      IsFreedAt (length (joined (take k (rows_of gs))) + i) address (joined (rows_of gs)) freed (joined (rows_of (set gs k new)))
+  freed-groups i address freed h t =
+      subst (IsFreedAt (length (joined (take k (rows_of gs))) + i) address (joined (rows_of gs)) freed) joined-set
+      (freed-all (rows_of gs) k i address freed new.extents.items within (spot-in i h) (subst (λ es. IsFreedAt i address es freed new.extents.items) (sym (group-row gs k g l e)) t))
 
   pub written-groups : (i address : ℕ) (bytes : List ℕ) (done : Bool) → i < length g.extents.items → IsWrittenAt i address bytes g.extents.items done new.extents.items →
       IsWrittenAt (length (joined (take k (rows_of gs))) + i) address bytes (joined (rows_of gs)) done (joined (rows_of (set gs k new)))
@@ -143,6 +159,12 @@ module _ {A : Type 0} (gs : List (ExtentGroup A)) (k : ℕ) (g new : ExtentGroup
 
   pub same-groups : new.extents.items ≡ g.extents.items → rows_of (set gs k new) ≡ rows_of gs
   same-groups n = rows-set gs k new ∙ ap (λ es. set (rows_of gs) k es) (n ∙ sym (group-row gs k g l e)) ∙ set-row-same (rows_of gs) k
+
+pub freed-spot : {A : Type 0} (gs : List (ExtentGroup A)) (s : Spot) (g new : ExtentGroup A) (address : ℕ) (freed : Freed) → AreExtents (joined (rows_of gs)) → IsHolderIn address (rows_of gs) (Some s) → g ≡ get_or gs s.group g →
+    IsFreedAt s.at address g.extents.items freed new.extents.items → IsFreedFrom s address (rows_of gs) freed (rows_of (set gs s.group new))
+freed-spot gs s g new address freed a h e f =
+    subst (IsFreedFrom s address (rows_of gs) freed) (sym (rows-set gs s.group new))
+    (freed-from (rows_of gs) s address freed new.extents.items a h (subst (λ es. IsFreedAt s.at address es freed new.extents.items) (sym (group-row gs s.group g (in-groups gs s.group h.0.0) e)) f))
 
 rows-insert : {A : Type 0} (gs : List (ExtentGroup A)) (k : ℕ) (y : ExtentGroup A) → rows_of (insert gs k y) ≡ insert (rows_of gs) k y.extents.items
 rows-insert [] zero y = refl

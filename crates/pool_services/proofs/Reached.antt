@@ -1,10 +1,9 @@
 -- Small facts of the extents and their rooms that calls ask for.
-use Rattle.std.proofs.Common.{◌≡◌, ℕ, zero, suc, ◌+◌, ◌<◌, List, [], ◌∷◌, drop, length, map, set, slice_index_or, refl, sym, ap, ◌∙◌, arith, subst}
-use Rattle.std.specs.List.{AllByRecursion}
+use Rattle.std.proofs.Common.{◌≡◌, ℕ, zero, suc, ◌+◌, ◌<◌, List, [], ◌∷◌, drop, length, map, set, refl, sym, ap, ◌∙◌, arith, subst}
 use Rattle.std.proofs.lemmas.List.{get_or-drop, length-drop, length-map}
 use Rattle.pool_services.specs.declared.rooms.Room.{Room}
 use Rattle.pool_services.specs.Extents.{Extent, AreExtents}
-use Rattle.pool_services.specs.Searches.{HoldsAddress, IsAt}
+use Rattle.pool_services.specs.Searches.{IsAt}
 use Rattle.pool_services.specs.Rooms.{AreBounded, IsRoomAt, room_of}
 
 pub rooms-reach : (rs : List Room) (es : List Extent) (i : ℕ) → rs ≡ map room_of es → i < length es → i < length rs
@@ -20,21 +19,8 @@ same-rooms rs es i x y a e h q =
     let s = same-extents es i x y h q in
     (subst AreExtents (sym s) a, e ∙ sym (ap (λ (zs : List Extent). map room_of zs) s))
 
-pub none-low : (address : ℕ) (es : List Extent) → address < 8 → AllByRecursion (λ e. ¬ HoldsAddress e address) es
-none-low address [] l = tt
-none-low address (e ∷ es) l = ((λ h. omega (arith, l, h.0)), none-low address es l)
-
 pub moved : (new old es : List Extent) → new ≡ old → old ≡ es → new ≡ es
 moved new old es e v = e ∙ v
-
-abbrev a-room : ℕ → ℕ → ℕ → Room
-a-room first mtype longest = record { first = first; mtype = mtype; longest = longest }
-
-pub set-same-room : (rs : List Room) (i : ℕ) (x y : Room) → i < length rs → x ≡ slice_index_or rs i x → x.longest ≡ y.longest → x.first ≡ y.first → x.mtype ≡ y.mtype → rs ≡ set rs i y
-set-same-room [] i x y l e n f t = absurd (omega (arith, l))
-set-same-room (r ∷ rs) zero x y l e n f t =
-    ap (λ (z : Room). z ∷ rs) (sym e ∙ ap (λ (k : ℕ). a-room k x.mtype x.longest) f ∙ ap (λ (k : ℕ). a-room y.first k x.longest) t ∙ ap (λ (k : ℕ). a-room y.first y.mtype k) n)
-set-same-room (r ∷ rs) (suc i) x y l e n f t = ap (λ (zs : List Room). r ∷ zs) (set-same-room rs i x y (omega (arith, l)) e n f t)
 
 -- rooms from an index on are bounded as all are
 pub bounded-rest : (rs new : List Room) (bounds : List ℕ) (at : ℕ) → AreBounded rs bounds → new ≡ drop at rs → AreBounded new bounds

@@ -8,8 +8,9 @@ use Rattle.raw_pool.specs.Blocks.{Block, cells_for, end_of, longest_run}
 use Rattle.pool_services.specs.declared.rooms.Room.{Room}
 use Rattle.pool_services.specs.Extents.{Extent, AreBlocks, AreExtents, address_of, cells_in, is_within, written_in}
 use Rattle.pool_services.specs.Searches.{IsAt, IsFirstWithRoom, has_run, place, written_if}
-use Rattle.pool_services.specs.Rooms.{IsFirstServing, IsRoomAt, NoneServes, room_of, serves}
+use Rattle.pool_services.specs.Rooms.{HasLongestAt, IsFirstServing, IsRoomAt, NoneServes, room_of, serves}
 use Rattle.pool_services.proofs.ExtentLists.{Falls, falls, partitioned}
+use Rattle.pool_services.proofs.ExtentChanges.{same-at}
 
 -- ---- how long a run is
 
@@ -101,6 +102,14 @@ first-returned t size cells o rs es e c h =
 pub rooms-set : (rs new : List Room) (es : List Extent) (i : ℕ) (y : Extent) (r : Room) → rs ≡ map room_of es → r ≡ room_of y → new ≡ set rs i r → new ≡ map room_of (set es i y)
 rooms-set rs new es i y r e q n =
     n ∙ ap (λ (z : Room). set rs i z) q ∙ ap (λ (zs : List Room). set zs i (room_of y)) e ∙ sym (map-set room_of es i y)
+
+pub rooms-longest : (rs new : List Room) (es : List Extent) (i n : ℕ) (x y : Extent) → rs ≡ map room_of es → IsAt es i x → y.first ≡ x.first → y.mtype ≡ x.mtype → n ≡ (room_of y).longest → HasLongestAt i n rs new → new ≡ map room_of (set es i y)
+rooms-longest rs new es i n x y e t f m q (r, h, w) =
+    let (z, u, v) = extent-at es i r (subst (λ (zs : List Room). IsRoomAt zs i r) e h) in
+    let same = same-at es i z x u t in
+    let f' : r.first ≡ y.first = ap (λ (p : Room). p.first) (sym v) ∙ ap (λ (p : Extent). p.first) same ∙ sym f in
+    let m' : r.mtype ≡ y.mtype = ap (λ (p : Room). p.mtype) (sym v) ∙ ap (λ (p : Extent). p.mtype) same ∙ sym m in
+    rooms-set rs new es i y (room r.first r.mtype n) e (ap (λ (k : ℕ). room k r.mtype n) f' ∙ ap (λ (k : ℕ). room y.first k n) m' ∙ ap (λ (k : ℕ). room y.first y.mtype k) q) w
 
 set-alike : (es : List Extent) (i : ℕ) (x y : Extent) → IsAt es i x → room_of y ≡ room_of x → map room_of (set es i y) ≡ map room_of es
 set-alike [] i x y h q = refl

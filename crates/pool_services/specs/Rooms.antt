@@ -1,6 +1,6 @@
 -- What is kept of the extents of a group beside them, so that room, or the extent of an address, is
 -- found soon.
-use Rattle.std.specs.Prelude.{◌≡◌, ℕ, ◌+◌, ◌%◌, ◌≤◌, ◌<◌, ◌==◌, ◌&&◌, nat_le, slice_index, slice_index_or, Bool, true, false, List, ◌++◌, drop, length, take, Option, Some, None}
+use Rattle.std.specs.Prelude.{◌≡◌, ℕ, ◌+◌, ◌%◌, ◌≤◌, ◌<◌, ◌==◌, ◌&&◌, nat_le, slice_index, slice_index_or, Bool, true, false, List, ◌++◌, drop, length, set, take, Option, Some, None}
 use Rattle.raw_pool.specs.Blocks.{longest_run}
 use Rattle.pool_services.specs.declared.rooms.Room.{Room}
 use Rattle.pool_services.specs.Extents.{Extent, cells_in}
@@ -51,6 +51,12 @@ abbrev pub IsFirstServing : ℕ → ℕ → List Room → Option ℕ → Type 0
 IsFirstServing t cells rs None = NoneServes t cells rs (length rs)
 IsFirstServing t cells rs (Some i) =
     (r : Room) × IsRoomAt rs i r × (serves t cells r ≡ true) × NoneServes t cells rs i
+
+-- the rooms once the longest run of the one at an index has a number of cells
+abbrev pub HasLongestAt : ℕ → ℕ → List Room → List Room → Type 0
+HasLongestAt i cells rs new =
+    (r : Room) × IsRoomAt rs i r
+    × (new ≡ set rs i (record { first = r.first; mtype = r.mtype; longest = cells }))
 
 -- the rooms without the one at an index
 abbrev pub without_room : ℕ → List Room → List Room

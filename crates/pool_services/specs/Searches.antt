@@ -2,9 +2,11 @@
 use Rattle.std.specs.Prelude.{◌≡◌, ℕ, suc, ◌+◌, ◌==◌, ◌&&◌, take, ◌<◌, ◌≤◌, nat_le, slice_index_or, Bool, true, false, cond, is_some, List, [], ◌∷◌, length, drop, map, set, Option, Some, None, ◌≢◌, IsTrue, ◌↔◌}
 use Rattle.std.specs.List.{AllByRecursion}
 use Rattle.raw_pool.specs.Blocks.{Block, block_at, cells_for, longest_run, lowest_fit, without_block}
+use Rattle.pool_services.specs.declared.extents.Freed.{Freed}
+use Rattle.pool_services.specs.declared.extents.Freed.TheVariants.{Back, Last, NoBlock}
 use Rattle.pool_services.specs.declared.rooms.Room.{Room}
 use Rattle.pool_services.specs.PoolRules.{IsInBlock, extent_type}
-use Rattle.pool_services.specs.Extents.{place_of, written, AreExtents, Extent, Place, ended, without, address_of, cells_in, first_fit, fit_in, with_new_block, tail_in, with_blocks, written_in}
+use Rattle.pool_services.specs.Extents.{place_of, written, AreExtents, Extent, Place, ended, without, address_of, cell_of, cells_in, first_fit, fit_in, with_new_block, tail_in, with_blocks, written_in}
 use Rattle.pool_services.specs.Regions.{with_block_at}
 use Rattle.pool_services.specs.Rooms.{room_of}
 
@@ -54,6 +56,15 @@ abbrev pub IsHolder : List Extent → ℕ → Option ℕ → Type 0
 IsHolder es address None = AllByRecursion (λ e. ¬ HoldsAddress e address) es
 IsHolder es address (Some i) = (e : Extent) × IsAt es i e × HoldsAddress e address
 
+-- an extent has a page
+abbrev pub HasPage : Extent → ℕ → Type 0
+HasPage e page = (e.first ≤ page) × (page < e.first + e.pages)
+
+-- the extent that a page is of, by its index; else it is of none
+abbrev pub IsPageHolder : List Extent → ℕ → Option ℕ → Type 0
+IsPageHolder es page None = AllByRecursion (λ e. ¬ HasPage e page) es
+IsPageHolder es page (Some i) = (e : Extent) × IsAt es i e × HasPage e page
+
 -- how many items at the front pass a test
 abbrev pub place : {X : Type 0} → (X → Bool) → List X → ℕ
 place p [] = 0
@@ -102,22 +113,32 @@ IsTakenLive t size es (Some address) new =
     (p : Place) × (first_fit t size es ≡ Some p) × (address ≡ address_of p.first p.cell)
     × (new ≡ with_new_block p size es)
 
--- the block at a cell of the extent at an index, which is not the only one
-abbrev pub IsGivable : ℕ → ℕ → List Extent → Type 0
-IsGivable i cell es =
-    (e : Extent) × IsAt es i e × (is_some (block_at cell e.blocks) ≡ true) × (length e.blocks ≢ 1)
-
--- the extents once such a block was given back
+-- the extents once the block at a cell of the one at an index was given back, which was not the
+-- only one there
 abbrev pub IsGivenIn : ℕ → ℕ → List Extent → List Extent → Type 0
 IsGivenIn i cell es new =
     (e : Extent) × IsAt es i e × (new ≡ without (record { first = e.first; cell = cell }) es)
     × (ended (record { first = e.first; cell = cell }) es ≡ None)
     × ((k : ℕ) → extent_type k new ≡ extent_type k es)
 
--- the extents once the block at a cell of one of them was given back
-abbrev pub IsGivenAt : ℕ → ℕ → List Extent → List Extent → Type 0
-IsGivenAt i cell es new =
-    (e : Extent) × IsAt es i e × (new ≡ set es i (with_blocks (without_block cell e.blocks) e))
+-- what comes of giving back the block that has an address in an extent, and the extent then
+abbrev pub IsFreed : ℕ → Extent → Freed → Extent → Type 0
+IsFreed address e NoBlock new = (cell_of e.first address e.blocks ≡ None) × (new ≡ e)
+IsFreed address e Back new =
+    (cell : ℕ) × (cell_of e.first address e.blocks ≡ Some cell) × (length e.blocks ≢ 1)
+    × (new ≡ with_blocks (without_block cell e.blocks) e)
+IsFreed address e (Last cell) new =
+    (cell_of e.first address e.blocks ≡ Some cell) × (length e.blocks ≡ 1) × (new ≡ e)
+
+-- the same in the extent at an index, and the extents then
+abbrev pub IsFreedAt : ℕ → ℕ → List Extent → Freed → List Extent → Type 0
+IsFreedAt i address es freed new =
+    (e : Extent) × (left : Extent) × IsAt es i e × IsFreed address e freed left
+    × (new ≡ set es i left)
+
+-- the extent at an index has one block
+abbrev pub HasOneBlock : ℕ → List Extent → Type 0
+HasOneBlock i es = (e : Extent) × IsAt es i e × (length e.blocks ≡ 1)
 
 -- the block that has an address: the index of its extent and its cell, among extents in order
 abbrev pub IsFound : ℕ → List Extent → Option (ℕ × ℕ) → Type 0

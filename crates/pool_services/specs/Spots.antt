@@ -1,10 +1,12 @@
 -- Where an extent is among groups.
-use Rattle.std.specs.Prelude.{ℕ, ◌+◌, ◌<◌, List, [], length, slice_index_or, take, Option, None, Some}
+use Rattle.std.specs.Prelude.{◌≡◌, ℕ, ◌+◌, ◌<◌, List, [], length, slice_index_or, take, Option, None, Some}
 use Rattle.pool_services.specs.Extents.{Extent}
 use Rattle.pool_services.specs.Groups.{joined, rows_of}
-use Rattle.pool_services.specs.Searches.{IsFirstWithRoom, IsFound, IsHolder}
+use Rattle.pool_services.specs.Searches.{HasOneBlock, IsFirstWithRoom, IsFound, IsGivenIn, IsHolder}
 use Rattle.pool_services.specs.declared.extent_group.ExtentGroup.{ExtentGroup}
 use Rattle.pool_services.specs.declared.extent_groups.Spot.{Spot}
+use Rattle.pool_services.specs.declared.extents.Freed.{Freed}
+use Rattle.pool_services.specs.declared.extents.Freed.TheVariants.{Back, Last, NoBlock}
 
 -- the extents in some groups
 abbrev pub extents_of : {A : Type 0} → List (ExtentGroup A) → List Extent
@@ -30,8 +32,13 @@ IsFirstIn t cells rows None = IsFirstWithRoom t cells (joined rows) None
 IsFirstIn t cells rows (Some s) =
     IsSpot rows s × IsFirstWithRoom t cells (joined rows) (Some (index_of rows s))
 
--- the block that has an address: the spot of its extent, and its cell
-abbrev pub IsFoundIn : ℕ → List (List Extent) → Option (Spot × ℕ) → Type 0
-IsFoundIn address rows None = IsFound address (joined rows) None
-IsFoundIn address rows (Some (s, cell)) =
-    IsSpot rows s × IsFound address (joined rows) (Some (index_of rows s, cell))
+-- What comes of giving back the block that has an address in the extent at a spot, and the extents
+-- of the groups then.
+abbrev pub IsFreedFrom : Spot → ℕ → List (List Extent) → Freed → List (List Extent) → Type 0
+IsFreedFrom s address rows NoBlock new = IsFound address (joined rows) None × (new ≡ rows)
+IsFreedFrom s address rows Back new =
+    (cell : ℕ) × IsFound address (joined rows) (Some (index_of rows s, cell))
+    × IsGivenIn (index_of rows s) cell (joined rows) (joined new)
+IsFreedFrom s address rows (Last cell) new =
+    IsFound address (joined rows) (Some (index_of rows s, cell))
+    × HasOneBlock (index_of rows s) (joined rows) × (new ≡ rows)

@@ -5,9 +5,9 @@ ghost use Rattle.raw_pool.specs.Blocks.{cells_for};
 ghost use Rattle.pool_services.specs.Extents.{AreExtents, IsExtent, max_size, with_extent};
 ghost use Rattle.pool_services.specs.Listed.{blocks_of, is_from};
 ghost use Rattle.pool_services.specs.Rooms.{room_of};
-ghost use Rattle.pool_services.specs.Searches.{IsFirstWithRoom, IsGivable, IsGivenAt, IsHolder, IsTakenAt, IsWrittenAt};
+ghost use Rattle.pool_services.specs.Searches.{IsFirstWithRoom, IsFreedAt, IsHolder, IsPageHolder, IsTakenAt, IsWrittenAt};
 
-use crate::extents::{HEADER_SIZE, PoolExtent, cells_for};
+use crate::extents::{Freed, PoolExtent, cells_for};
 use crate::listed::PoolBlock;
 use crate::room::insert_with_room;
 use crate::rooms::Rooms;
@@ -65,19 +65,21 @@ impl<A: Allocator + Copy> ExtentGroup<A> {
         let extent = &mut self.extents[at];
         let cell = extent.take(size)?;
         let address = extent.address_of(cell);
-        self.rooms.set(at, extent.room());
+        self.rooms.set_longest(at, extent.longest());
         Some(address)
     }
 
-    /// Gives the block at a cell of an extent back, which is not the only one there.
-    pub(crate) fn give(&mut self, at: usize, cell: usize)
+    /// Gives the block that has an address back, which lies in an extent, unless it is the only one there.
+    #[inline(always)]
+    pub(crate) fn give(&mut self, at: usize, address: u64) -> Freed
         requires order { AreExtents self.old.extents.items }
-        requires block { IsGivable at cell self.old.extents.items }
-        ensures { IsGivenAt at cell self.old.extents.items self.new.extents.items }
+        requires holder { IsHolder self.old.extents.items address (Some at) }
+        ensures { IsFreedAt at address self.old.extents.items result self.new.extents.items }
     {
         let extent = &mut self.extents[at];
-        extent.give(cell);
-        self.rooms.set(at, extent.room());
+        let given = extent.give(address);
+        self.rooms.set_longest(at, extent.longest());
+        given
     }
 
     /// Writes bytes in the extent that holds their address. False, with nothing changed, if they do not
@@ -91,15 +93,11 @@ impl<A: Allocator + Copy> ExtentGroup<A> {
         self.extents[at].write(address, bytes)
     }
 
-    /// The extent in which a block with an address lies, if there is one.
-    pub(crate) fn holder(&self, address: u64) -> Option<usize>
+    /// The extent in which a page lies, if there is one.
+    pub(crate) fn holder(&self, page: u64) -> Option<usize>
         requires { AreExtents self.now.extents.items }
-        ensures { IsHolder self.now.extents.items address result }
+        ensures { IsPageHolder self.now.extents.items page result }
     {
-        if address < HEADER_SIZE {
-            return None;
-        }
-        let page = (address - HEADER_SIZE) / PAGE_SIZE;
         let count = count_up_to(self.rooms.rooms.as_slice(), page);
         if count == 0 {
             return None;

@@ -5,11 +5,11 @@ ghost use Rattle.raw_pool.specs.Blocks.{cells_for};
 ghost use Rattle.pool_services.specs.Extents.{AreExtents, IsExtent, max_size, tail_at, with_extent};
 ghost use Rattle.pool_services.specs.Groups.{AreApart, HasPlaceAt, IsGroupOf, first_page, rows_of, without_extent};
 ghost use Rattle.pool_services.specs.Listed.{blocks_of, is_from};
-ghost use Rattle.pool_services.specs.Spots.{IsFirstIn, IsFoundIn, IsHolderIn, IsSpot, extents_of, index_of};
-ghost use Rattle.pool_services.specs.Searches.{IsAt, IsGivable, IsGivenIn, IsTakenLive, IsWrittenIn};
+ghost use Rattle.pool_services.specs.Spots.{IsFirstIn, IsFreedFrom, IsHolderIn, IsSpot, extents_of, index_of};
+ghost use Rattle.pool_services.specs.Searches.{IsAt, IsTakenLive, IsWrittenIn};
 
 use crate::extent_group::ExtentGroup;
-use crate::extents::{HEADER_SIZE, PoolExtent};
+use crate::extents::{Freed, HEADER_SIZE, PoolExtent};
 use crate::listed::PoolBlock;
 use crate::room::insert_with_room;
 use page_ranges::{MemoryType, PAGE_SIZE};
@@ -143,16 +143,20 @@ impl<A: Allocator + Copy> ExtentGroups<A> {
     }
 
     /// The extent in which a block with an address lies, if there is one.
-    fn holder(&self, address: u64) -> Option<Spot>
+    pub(crate) fn holder(&self, address: u64) -> Option<Spot>
         ensures holder { IsHolderIn address (rows_of self.now) result }
         ensures apart { AreApart self.now }
     {
-        let page = address.saturating_sub(HEADER_SIZE) / PAGE_SIZE;
-        let group = group_up_to(self.groups.as_slice(), page);
-        if group >= self.groups.len() {
+        let groups = &self.groups;
+        if address < HEADER_SIZE {
             return None;
         }
-        let at = self.groups[group].holder(address)?;
+        let page = (address - HEADER_SIZE) / PAGE_SIZE;
+        let group = group_up_to(groups.as_slice(), page);
+        if group >= groups.len() {
+            return None;
+        }
+        let at = groups[group].holder(page)?;
         Some(Spot { group, at })
     }
 
@@ -173,15 +177,6 @@ impl<A: Allocator + Copy> ExtentGroups<A> {
         &self.groups[spot.group].extents[spot.at]
     }
 
-    /// The block that has an address: where its extent is, and its cell.
-    pub(crate) fn find(&self, address: u64) -> Option<(Spot, usize)>
-        ensures { IsFoundIn address (rows_of self.now) result }
-    {
-        let spot = self.holder(address)?;
-        let cell = self.extent(spot).cell_of(address)?;
-        Some((spot, cell))
-    }
-
     /// Takes a block in the first extent of a type that has room, and returns its address.
     pub(crate) fn take(&mut self, mtype: MemoryType, size: usize) -> Option<u64>
         requires { size ≤ max_size }
@@ -191,14 +186,13 @@ impl<A: Allocator + Copy> ExtentGroups<A> {
         self.groups[spot.group].take(spot.at, size)
     }
 
-    /// Gives the block at a cell of an extent back, which is not the only one there.
-    pub(crate) fn give(&mut self, spot: Spot, cell: usize)
-        requires spot { IsSpot (rows_of self.old) spot }
-        requires block { IsGivable (index_of (rows_of self.old) spot) cell (extents_of self.old) }
-        ensures { IsGivenIn (index_of (rows_of self.old) spot) cell (extents_of self.old)
-            (extents_of self.new) }
+    /// Gives the block that has an address back, which lies in an extent, unless it is the only one there.
+    #[inline(always)]
+    pub(crate) fn give(&mut self, spot: Spot, address: u64) -> Freed
+        requires { IsHolderIn address (rows_of self.old) (Some spot) }
+        ensures { IsFreedFrom spot address (rows_of self.old) result (rows_of self.new) }
     {
-        self.groups[spot.group].give(spot.at, cell);
+        self.groups[spot.group].give(spot.at, address)
     }
 
     /// Takes an extent out.

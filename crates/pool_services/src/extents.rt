@@ -1,13 +1,13 @@
 //! An extent of the pool with its region of memory.
-ghost use Rattle.std.specs.Prelude.{◌≡◌, ◌+◌, ◌<◌, ◌≤◌, ◌↔◌, ◌^◌, [], length, is_some, map, nat_le, ℕ, option_map, true, IsTrue, MatchOption};
+ghost use Rattle.std.specs.Prelude.{◌≡◌, ◌≢◌, ◌+◌, ◌<◌, ◌≤◌, ◌↔◌, ◌^◌, [], length, is_some, map, nat_le, ℕ, option_map, true, IsTrue, MatchOption};
 ghost use Rattle.std.specs.List.{find};
 ghost use Rattle.page_ranges.specs.Granules.{IsGranule};
 ghost use Rattle.raw_pool.specs.Blocks.{block_at, cells_for, lowest_fit, new_block, with_block, without_block};
-ghost use Rattle.pool_services.specs.Extents.{IsExtent, address_of, cell_of, cells_in, extent_pages, extent_with_block, max_size, pages_for, tail_in, with_blocks};
+ghost use Rattle.pool_services.specs.Extents.{IsExtent, address_of, cells_in, extent_pages, extent_with_block, max_size, pages_for, tail_in, with_blocks};
 ghost use Rattle.pool_services.specs.Regions.{IsRegionFor, with_block_at};
 ghost use Rattle.pool_services.specs.Listed.{begins_from, is_from, listed};
 ghost use Rattle.pool_services.specs.Rooms.{room_of};
-ghost use Rattle.pool_services.specs.Searches.{HasRoom, HoldsAddress, IsLastUpTo, IsLocated, written_if};
+ghost use Rattle.pool_services.specs.Searches.{HasRoom, HoldsAddress, IsFreed, IsLastUpTo, IsLocated, written_if};
 
 use crate::listed::PoolBlock;
 use crate::rooms::Room;
@@ -52,6 +52,16 @@ pub(crate) fn extent_pages(granule: u64, mtype: MemoryType, size: usize) -> usiz
         unreachable!();
     };
     pages as usize
+}
+
+/// What comes of giving back the block that has an address.
+pub(crate) enum Freed {
+    /// No block has the address.
+    NoBlock,
+    /// The block is given back.
+    Back,
+    /// The block, at this cell, is the only one of its extent, and stays.
+    Last(usize),
 }
 
 /// Some pages of one type and the blocks in them.
@@ -123,15 +133,16 @@ impl<A: Allocator + Copy> PoolExtent<A> {
         Room {
             first: self.range.first,
             mtype: self.mtype,
-            longest: self.region.longest_free() as u32,
+            longest: self.longest(),
         }
     }
 
-    /// Whether there is just one block.
-    pub(crate) fn has_one_block(&self) -> bool
-        ensures { IsTrue result ↔ (length self.now.blocks ≡ 1) }
+    /// How many cells the longest run of free cells has.
+    pub(crate) fn longest(&self) -> u32
+        requires { IsExtent self.now }
+        ensures { result ≡ (room_of self.now).longest }
     {
-        self.live == 1
+        self.region.longest_free() as u32
     }
 
     /// Takes the lowest run of free cells that has room for a block, and returns its first cell.
@@ -147,15 +158,42 @@ impl<A: Allocator + Copy> PoolExtent<A> {
         Some(cell)
     }
 
-    /// Gives the block at a cell back.
-    pub(crate) fn give(&mut self, cell: usize)
-        requires extent { IsExtent self.old }
-        requires block { is_some (block_at cell self.old.blocks) ≡ true }
-        ensures { self.new ≡ with_blocks (without_block cell self.old.blocks) self.old }
+    /// The cell at which a block would begin that has an address, which lies in the extent.
+    fn cell_at(&self, address: u64) -> Option<usize>
+        requires extent { IsExtent self.now }
+        requires in_extent { HoldsAddress self.now address }
+        ensures { MatchOption result ((k : ℕ) → address_of self.now.first k ≢ address)
+            (λ cell. address ≡ address_of self.now.first cell) }
     {
-        if self.region.give(cell) {
-            self.live -= 1;
+        let offset = address - HEADER_SIZE - PAGE_SIZE * self.range.first;
+        if offset % CELL_SIZE == 0 {
+            Some((offset / CELL_SIZE) as usize)
+        } else {
+            None
         }
+    }
+
+    /// Gives the block that has an address back, which lies in the extent, unless it is the only one.
+    #[inline(always)]
+    pub(crate) fn give(&mut self, address: u64) -> Freed
+        requires extent { IsExtent self.old }
+        requires in_extent { HoldsAddress self.old address }
+        ensures { IsFreed address self.old result self.new }
+    {
+        let Some(cell) = self.cell_at(address) else {
+            return Freed::NoBlock;
+        };
+        if self.live == 1 {
+            if self.region.size_of(cell).is_none() {
+                return Freed::NoBlock;
+            }
+            return Freed::Last(cell);
+        }
+        if !self.region.give(cell) {
+            return Freed::NoBlock;
+        }
+        self.live -= 1;
+        Freed::Back
     }
 
     /// The memory of the extent, where the block at a cell is given back.
@@ -179,24 +217,6 @@ impl<A: Allocator + Copy> PoolExtent<A> {
         ensures { result ≡ address_of self.now.first cell }
     {
         PAGE_SIZE * self.range.first + CELL_SIZE * cell as u64 + HEADER_SIZE
-    }
-
-    /// The cell of the block that has an address, which lies in the extent.
-    pub(crate) fn cell_of(&self, address: u64) -> Option<usize>
-        requires extent { IsExtent self.now }
-        requires in_extent { HoldsAddress self.now address }
-        ensures { result ≡ cell_of self.now.first address self.now.blocks }
-    {
-        let offset = address - HEADER_SIZE - PAGE_SIZE * self.range.first;
-        if offset % CELL_SIZE != 0 {
-            return None;
-        }
-        let cell = (offset / CELL_SIZE) as usize;
-        if self.region.size_of(cell).is_some() {
-            Some(cell)
-        } else {
-            None
-        }
     }
 
     /// The last cell of some that begins a block, of the first cells up to one.

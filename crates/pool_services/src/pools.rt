@@ -8,7 +8,7 @@ ghost use Rattle.pool_services.specs.Listed.{blocks_of, is_from};
 ghost use Rattle.pool_services.specs.PoolRules.{AllocatesPool, FillsPool, FreesPool, HasReservedEnds, OwnsExtents, ReadsPool, WritesPool, extent_request};
 
 use crate::extent_groups::ExtentGroups;
-use crate::extents::{HEADER_SIZE, PoolExtent, extent_pages, pages_for};
+use crate::extents::{Freed, HEADER_SIZE, PoolExtent, extent_pages, pages_for};
 use crate::listed::PoolBlock;
 use crate::spare::SpareRegion;
 use page_ranges::{MemoryType, PAGE_SIZE, Status, type_for_alloc};
@@ -195,18 +195,20 @@ impl<A: Allocator + Copy> Pools<A> {
         ensures owns { OwnsExtents book.new.memory self.new }
         ensures reserved { HasReservedEnds book.new self.new }
     {
-        let Some((spot, cell)) = self.extents.find(address) else {
+        let Some(spot) = self.extents.holder(address) else {
             return Err(Status::InvalidParameter);
         };
-        let extent = self.extents.extent(spot);
-        if !extent.has_one_block() {
-            self.extents.give(spot, cell);
-            return Ok(());
+        match self.extents.give(spot, address) {
+            Freed::NoBlock => Err(Status::InvalidParameter),
+            Freed::Back => Ok(()),
+            Freed::Last(cell) => {
+                let range = self.extents.extent(spot).range();
+                book.give_from_pool(range)?;
+                let extent = self.extents.remove(spot);
+                self.spare.keep(extent.into_region(cell));
+                Ok(())
+            }
         }
-        book.give_from_pool(extent.range())?;
-        let extent = self.extents.remove(spot);
-        self.spare.keep(extent.into_region(cell));
-        Ok(())
     }
 
     /// Reads the bytes from an address on into a buffer, all of which one block must have.

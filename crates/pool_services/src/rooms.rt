@@ -1,7 +1,7 @@
 //! What a search asks of each extent of a group, kept in a row so that it looks at few of the extents themselves.
 ghost use Rattle.std.specs.Prelude.{◌≡◌, ◌<◌, ◌≤◌, [], set, take, drop, ◌++◌, length, map, slice_index, vec_len, vec_capacity, IfOk, OnOk};
 ghost use Rattle.std.specs.List.{insert};
-ghost use Rattle.pool_services.specs.Rooms.{AreBounded, BoundsClass, IsFirstServing, IsRaised, class_of, serves, without_room};
+ghost use Rattle.pool_services.specs.Rooms.{AreBounded, BoundsClass, HasLongestAt, IsFirstServing, IsRaised, class_of, serves, without_room};
 
 use crate::room::insert_with_room;
 use page_ranges::MemoryType;
@@ -27,8 +27,8 @@ fn class_of(mtype: MemoryType) -> usize
 }
 
 /// Whether a room is of a type and has a number of cells.
-fn serves(room: Room, mtype: MemoryType, cells: usize) -> bool
-    ensures { result ≡ serves mtype cells room }
+fn serves(room: &Room, mtype: MemoryType, cells: usize) -> bool
+    ensures { result ≡ serves mtype cells room.now }
 {
     room.mtype == mtype && cells <= room.longest as usize
 }
@@ -38,7 +38,7 @@ fn first_serving(rooms: &[Room], mtype: MemoryType, cells: usize) -> Option<usiz
     ensures { IsFirstServing mtype cells rooms.now result }
 {
     for at in 0..rooms.len() {
-        if serves(rooms[at], mtype, cells) {
+        if serves(&rooms[at], mtype, cells) {
             return Some(at);
         }
     }
@@ -46,8 +46,8 @@ fn first_serving(rooms: &[Room], mtype: MemoryType, cells: usize) -> Option<usiz
 }
 
 /// The cells of a room that is of a class, else 0.
-fn cells_in_class(room: Room, class: usize) -> u32
-    ensures { class_of room.mtype ≡ class → result ≡ room.longest }
+fn cells_in_class(room: &Room, class: usize) -> u32
+    ensures { class_of room.now.mtype ≡ class → result ≡ room.now.longest }
 {
     if class_of(room.mtype) == class {
         room.longest
@@ -62,7 +62,7 @@ fn most_in_class(rooms: &[Room], class: usize) -> u32
 {
     let mut most = 0;
     for at in 0..rooms.len() {
-        most = most.max(cells_in_class(rooms[at], class));
+        most = most.max(cells_in_class(&rooms[at], class));
     }
     most
 }
@@ -112,15 +112,24 @@ impl<A: Allocator + Copy> Rooms<A> {
         found
     }
 
-    /// Puts a room into the place of another. Most often it is the same.
-    pub(crate) fn set(&mut self, at: usize, room: Room)
+    /// Says how many cells the longest run of a room has. Most often it stays as it is.
+    pub(crate) fn set_longest(&mut self, at: usize, longest: u32)
         requires { at < length self.old.rooms.items }
-        ensures { self.new.rooms.items ≡ set self.old.rooms.items at room }
+        ensures { HasLongestAt at longest self.old.rooms.items self.new.rooms.items }
     {
-        let kept = self.rooms[at];
-        if kept.longest == room.longest && kept.first == room.first && kept.mtype == room.mtype {
+        let Room {
+            first,
+            mtype,
+            longest: kept,
+        } = self.rooms[at];
+        if kept == longest {
             return;
         }
+        let room = Room {
+            first,
+            mtype,
+            longest,
+        };
         self.rooms[at] = room;
         raise(&mut self.bounds, &room);
     }

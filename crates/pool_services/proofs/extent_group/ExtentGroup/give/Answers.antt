@@ -1,41 +1,48 @@
-use Rattle.std.proofs.Common.{◌≡◌, true, is_some, set, ap, subst, arith}
-use Rattle.pool_services.specs.Extents.{Extent}
-use Rattle.raw_pool.specs.Blocks.{block_at}
+use Rattle.std.proofs.Common.{refl, arith}
 use Rattle.pool_services.proofs.ExtentLists.{is-extent}
-use Rattle.pool_services.proofs.ExtentChanges.{same-at, is-left}
-use Rattle.pool_services.proofs.RoomLists.{rooms-set}
+use Rattle.pool_services.proofs.ExtentChanges.{freed-alike, held-at, is-freed}
+use Rattle.pool_services.proofs.RoomLists.{rooms-longest}
 use Rattle.pool_services.proofs.Reached.{rooms-reach}
 use Rattle.pool_services.proofs.extent_group.ExtentGroup.give.Goals as goal
 
-pub give-requires-clause-extent : goal.give-requires-clause-extent
-give-requires-clause-extent g c =
-    let (e, h, b, n) = c.requires.block in
-    is-extent c.args.self.now.extents.items c.args.at c.index_mut-extent.result.now c.requires.order (h.0, c.index_mut-extent.ensures.value)
-
-pub give-requires-clause-block : goal.give-requires-clause-block
-give-requires-clause-block g c =
-    let (e, h, b, n) = c.requires.block in
-    subst (λ (z : Extent). is_some (block_at c.args.cell z.blocks) ≡ true) (same-at c.args.self.now.extents.items c.args.at e c.index_mut-extent.result.now h (h.0, c.index_mut-extent.ensures.value)) b
-
-pub room-requires : goal.room-requires
-room-requires g c = is-left c.args.self.now.extents.items c.args.at c.args.cell c.index_mut-extent.result.now c.give.new.self c.requires.order c.requires.block c.index_mut-extent.ensures.value c.give.ensures
-
-pub returns : goal.returns
-returns g c =
-    let (e, h, b, n) = c.requires.block in
-    (c.index_mut-extent.result.now, (h.0, c.index_mut-extent.ensures.value), ap (λ (z : Extent). set c.args.self.now.extents.items c.args.at z) c.give.ensures)
-
 pub index_mut-extent-requires : goal.index_mut-extent-requires
 index_mut-extent-requires g c =
-    let (e, h, b, n) = c.requires.block in
+    let (e, h, q) = c.requires.holder in
     omega (arith, h.0)
 
-pub set-requires : goal.set-requires
-set-requires g c =
-    let (e, h, b, n) = c.requires.block in
+pub give-given-requires-clause-extent : goal.give-given-requires-clause-extent
+give-given-requires-clause-extent g c =
+    let k = held-at c.args.address c.args.self.now.extents.items c.args.at c.index_mut-extent.result.now c.requires.holder c.index_mut-extent.ensures.value in
+    is-extent c.args.self.now.extents.items c.args.at c.index_mut-extent.result.now c.requires.order k.0
+
+pub give-given-requires-clause-in_extent : goal.give-given-requires-clause-in_extent
+give-given-requires-clause-in_extent g c =
+    (held-at c.args.address c.args.self.now.extents.items c.args.at c.index_mut-extent.result.now c.requires.holder c.index_mut-extent.ensures.value).1
+
+pub longest-requires : goal.longest-requires
+longest-requires g c =
+    let k = held-at c.args.address c.args.self.now.extents.items c.args.at c.index_mut-extent.result.now c.requires.holder c.index_mut-extent.ensures.value in
+    is-freed c.args.address c.index_mut-extent.result.now c.give-given.new.self c.give-given.result (is-extent c.args.self.now.extents.items c.args.at c.index_mut-extent.result.now c.requires.order k.0) c.give-given.ensures
+
+pub set_longest-requires : goal.set_longest-requires
+set_longest-requires g c =
+    let (e, h, q) = c.requires.holder in
     rooms-reach c.args.self.now.rooms.rooms.items c.args.self.now.extents.items c.args.at c.args.self.now.alike h.0
 
+pub returns : goal.returns
+returns g c = (
+  c.index_mut-extent.result.now,
+  c.give-given.new.self,
+  (held-at c.args.address c.args.self.now.extents.items c.args.at c.index_mut-extent.result.now c.requires.holder c.index_mut-extent.ensures.value).0,
+  c.give-given.ensures,
+  refl,
+)
+
 pub invariant_of-self : goal.invariant_of-self
-invariant_of-self g c = record {
-  alike = rooms-set c.args.self.now.rooms.rooms.items c.set.new.self.rooms.items c.args.self.now.extents.items c.args.at c.give.new.self c.room.result c.args.self.now.alike c.room.ensures c.set.ensures;
-}
+invariant_of-self g c =
+    let k = held-at c.args.address c.args.self.now.extents.items c.args.at c.index_mut-extent.result.now c.requires.holder c.index_mut-extent.ensures.value in
+    let s = freed-alike c.args.address c.index_mut-extent.result.now c.give-given.new.self c.give-given.result c.give-given.ensures in
+    record {
+      alike = rooms-longest c.args.self.now.rooms.rooms.items c.set_longest.new.self.rooms.items c.args.self.now.extents.items c.args.at c.longest.result c.index_mut-extent.result.now c.give-given.new.self c.args.self.now.alike k.0 s.0 s.2 c.longest.ensures
+          c.set_longest.ensures;
+    }

@@ -1,14 +1,13 @@
-use Rattle.std.proofs.Common.{◌≡◌, suc, ◌-◌, ◌/◌, refl, sym, ◌∙◌, arith}
+use Rattle.std.proofs.Common.{◌≡◌, suc, ◌-◌, sym, ◌∙◌, arith}
 use Rattle.pool_services.specs.Searches.{IsAt}
-use Rattle.pool_services.proofs.ExtentLists.{first-above, behind-none, last-up-to, holds, is-extent}
-use Rattle.pool_services.proofs.Reached.{none-low}
+use Rattle.pool_services.proofs.ExtentLists.{first-above, behind-none, last-up-to, is-extent}
 use Rattle.pool_services.proofs.RoomLists.{rooms-within}
 use Rattle.pool_services.proofs.extent_group.ExtentGroup.holder.Goals as goal
 
 pub returns-then-count-eq0 : goal.returns-then-count-eq0
 returns-then-count-eq0 g c =
     let p = c.count_up_to-count.ensures.place c.args.self.now.extents.items c.requires (c.as_slice.ensures.value ∙ c.args.self.now.alike) in
-    first-above ((c.args.address - 8) / 4096) c.args.address c.args.self.now.extents.items c.requires c.if-address-lt-HEADER_SIZE.false refl (sym p ∙ c.if-count-eq0.true)
+    first-above c.args.page c.args.self.now.extents.items c.requires (sym p ∙ c.if-count-eq0.true)
 
 pub index-requires : goal.index-requires
 index-requires g c = omega (arith, rooms-within c.as_slice.result.now c.args.self.now.extents.items c.count_up_to-count.result (c.as_slice.ensures.value ∙ c.args.self.now.alike) c.count_up_to-count.ensures.bound, c.if-count-eq0.false)
@@ -25,8 +24,8 @@ returns-then-page-range g c =
     let w = rooms-within c.as_slice.result.now c.args.self.now.extents.items c.count_up_to-count.result e c.count_up_to-count.ensures.bound in
     let t : IsAt c.args.self.now.extents.items (c.count_up_to-count.result - 1) c.index.result.now = (omega (arith, w, c.if-count-eq0.false), c.index.ensures) in
     let n : c.count_up_to-count.result ≡ suc (c.count_up_to-count.result - 1) = omega (arith, c.if-count-eq0.false) in
-    let l = last-up-to ((c.args.address - 8) / 4096) c.args.self.now.extents.items (c.count_up_to-count.result - 1) c.index.result.now (sym (c.count_up_to-count.ensures.place c.args.self.now.extents.items c.requires e) ∙ n) t in
-    (c.index.result.now, t, holds ((c.args.address - 8) / 4096) c.args.address c.index.result.now c.if-address-lt-HEADER_SIZE.false refl l (omega (arith, c.if-page-range.true, c.range-range.ensures)))
+    let l = last-up-to c.args.page c.args.self.now.extents.items (c.count_up_to-count.result - 1) c.index.result.now (sym (c.count_up_to-count.ensures.place c.args.self.now.extents.items c.requires e) ∙ n) t in
+    (c.index.result.now, t, (l, omega (arith, c.if-page-range.true, c.range-range.ensures)))
 
 pub returns-else-page-range : goal.returns-else-page-range
 returns-else-page-range g c =
@@ -34,14 +33,8 @@ returns-else-page-range g c =
     let w = rooms-within c.as_slice.result.now c.args.self.now.extents.items c.count_up_to-count.result e c.count_up_to-count.ensures.bound in
     let t : IsAt c.args.self.now.extents.items (c.count_up_to-count.result - 1) c.index.result.now = (omega (arith, w, c.if-count-eq0.false), c.index.ensures) in
     let n : c.count_up_to-count.result ≡ suc (c.count_up_to-count.result - 1) = omega (arith, c.if-count-eq0.false) in
-    behind-none ((c.args.address - 8) / 4096) c.args.address c.args.self.now.extents.items (c.count_up_to-count.result - 1) c.index.result.now c.requires c.if-address-lt-HEADER_SIZE.false refl
+    behind-none c.args.page c.args.self.now.extents.items (c.count_up_to-count.result - 1) c.index.result.now c.requires
     (sym (c.count_up_to-count.ensures.place c.args.self.now.extents.items c.requires e) ∙ n) t (omega (arith, c.if-page-range.false, c.range-range.ensures))
-
-pub returns-then-address-lt-HEADER_SIZE : goal.returns-then-address-lt-HEADER_SIZE
-returns-then-address-lt-HEADER_SIZE g c = none-low c.args.address c.args.self.now.extents.items c.if-address-lt-HEADER_SIZE.true
 
 pub overflow_sub-count : goal.overflow_sub-count
 overflow_sub-count g c = omega (arith, c.if-count-eq0.false)
-
-pub overflow_sub-result : goal.overflow_sub-result
-overflow_sub-result g c = omega (arith, c.if-count-eq0.false)

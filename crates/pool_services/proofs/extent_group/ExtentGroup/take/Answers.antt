@@ -4,7 +4,7 @@ use Rattle.pool_services.specs.Extents.{Extent, IsExtent, cells_in}
 use Rattle.pool_services.proofs.CellBlocks.{fit-within}
 use Rattle.pool_services.proofs.ExtentLists.{is-extent}
 use Rattle.pool_services.proofs.ExtentChanges.{is-taken, taken-none, taken-some}
-use Rattle.pool_services.proofs.RoomLists.{rooms-set}
+use Rattle.pool_services.proofs.RoomLists.{rooms-longest}
 use Rattle.pool_services.proofs.Reached.{rooms-reach, same-rooms}
 use Rattle.pool_services.proofs.extent_group.ExtentGroup.take.Goals as goal
 
@@ -28,8 +28,8 @@ address_of-address-requires-clause-cell g c =
     let p = ap (λ (e : Extent). e.pages) (c.in_ok-cell.ensures.extent) in
     omega (arith, f.1, p)
 
-pub room-requires : goal.room-requires
-room-requires g c =
+pub longest-requires : goal.longest-requires
+longest-requires g c =
     let x = is-extent c.args.self.now.extents.items c.args.at c.index_mut-extent.result.now c.requires.order (c.requires.index, c.index_mut-extent.ensures.value) in
     subst IsExtent (sym (c.in_ok-cell.ensures.extent)) (is-taken c.index_mut-extent.result.now c.args.size c.in_ok-cell.cell x (sym (c.in_ok-cell.ensures.cell)))
 
@@ -40,8 +40,8 @@ returns g c =
 pub index_mut-extent-requires : goal.index_mut-extent-requires
 index_mut-extent-requires g c = omega (arith, c.requires.index)
 
-pub set-requires : goal.set-requires
-set-requires g c = rooms-reach c.args.self.now.rooms.rooms.items c.args.self.now.extents.items c.args.at c.args.self.now.alike (c.requires.index)
+pub set_longest-requires : goal.set_longest-requires
+set_longest-requires g c = rooms-reach c.args.self.now.rooms.rooms.items c.args.self.now.extents.items c.args.at c.args.self.now.alike (c.requires.index)
 
 pub invariant_of-self : goal.invariant_of-self
 invariant_of-self g c = record {
@@ -50,5 +50,6 @@ invariant_of-self g c = record {
 
 pub invariant_of-self-2 : goal.invariant_of-self-2
 invariant_of-self-2 g c = record {
-  alike = rooms-set c.args.self.now.rooms.rooms.items c.set.new.self.rooms.items c.args.self.now.extents.items c.args.at c.take.new.self c.room.result c.args.self.now.alike c.room.ensures c.set.ensures;
+  alike = rooms-longest c.args.self.now.rooms.rooms.items c.set_longest.new.self.rooms.items c.args.self.now.extents.items c.args.at c.longest.result c.index_mut-extent.result.now c.take.new.self c.args.self.now.alike (c.requires.index, c.index_mut-extent.ensures.value)
+      (ap (λ (e : Extent). e.first) (c.in_ok-cell.ensures.extent)) (ap (λ (e : Extent). e.mtype) (c.in_ok-cell.ensures.extent)) c.longest.ensures c.set_longest.ensures;
 }

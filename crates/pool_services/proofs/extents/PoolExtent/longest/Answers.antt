@@ -2,7 +2,7 @@ use Rattle.std.proofs.Common.{ℕ, arith, ap}
 use Rattle.raw_pool.specs.Blocks.{longest_run}
 use Rattle.pool_services.specs.Extents.{cells_in}
 use Rattle.pool_services.proofs.RoomLists.{longest-within}
-use Rattle.pool_services.proofs.extents.PoolExtent.room.Goals as goal
+use Rattle.pool_services.proofs.extents.PoolExtent.longest.Goals as goal
 
 pub overflow_cast-result : goal.overflow_cast-result
 overflow_cast-result g c =
