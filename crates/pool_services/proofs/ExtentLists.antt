@@ -1,9 +1,10 @@
 -- Lists of extents: the one at an index, the one that holds an address, and what changes in one of them.
-use Rattle.std.proofs.Common.{◌≡◌, ℕ, zero, suc, ◌+◌, ◌-◌, ◌/◌, ◌<◌, ◌≤◌, nat_le, Bool, true, false, cond, is_some, inl, inr, List, [], ◌∷◌, ◌++◌, length, take, drop, set, get_or, Option, Some, None, refl, sym, ap, ◌∙◌, arith, subst, eq-eqb, ne_eqb, le-leb}
+use Rattle.std.proofs.Common.{◌≡◌, ℕ, zero, suc, ◌+◌, ◌-◌, ◌*◌, ◌/◌, ◌<◌, ◌≤◌, nat_le, Bool, true, false, cond, is_some, inl, inr, List, [], ◌∷◌, ◌++◌, length, take, drop, set, get_or, Option, Some, None, refl, sym, ap, ◌∙◌, arith, subst, eq-eqb, ne_eqb, le-leb}
 use Rattle.std.specs.List.{AllByRecursion, insert}
 use Rattle.std.specs.List.Sorted.{IsPartitionedBy, IsPartitionPoint}
+use Rattle.std.specs.Int.{from_bool}
 use Rattle.std.proofs.lemmas.Bool.{cases_lt, cases_eq, cases_Bool, false_from_ne_true, lt-leb, leb-false, true≢false}
-use Rattle.std.proofs.lemmas.List.{set_split}
+use Rattle.std.proofs.lemmas.List.{set_split, take_rest}
 use Rattle.raw_pool.specs.Blocks.{cells_for, longest_run, lowest_fit}
 use Rattle.pool_services.specs.Extents.{Extent, Place, AreExtents, IsExtent, address_of, at_cell, begins_at, cell_of, cells_in, first_fit, fit_in, has_tail, or_else, place_of, replaced, tail_at, tail_in, with_blocks, with_extent, written, written_in}
 use Rattle.pool_services.specs.Searches.{HasRoom, HoldsAddress, HasPage, IsAt, IsHolder, IsPageHolder, has_run, passing, place}
@@ -65,6 +66,42 @@ place-is p (x ∷ xs) (suc i) l h =
 none-passing : {X : Type 0} (p : X → Bool) (xs : List X) → ((k : ℕ) (d : X) → k < length xs → p (get_or xs k d) ≡ false) → passing p xs ≡ 0
 none-passing p [] h = refl
 none-passing p (x ∷ xs) h = rw (h 0 x (omega arith)) (none-passing p xs (λ k d l. h (suc k) d (omega (arith, l))))
+
+none-of-all : {X : Type 0} (p : X → Bool) (n : ℕ) (xs : List X) → AllByRecursion (λ x. p x ≡ false) xs → (passing p xs ≡ 0) × (passing p (take n xs) ≡ 0)
+none-of-all p zero [] a = (refl, refl)
+none-of-all p (suc n) [] a = (refl, refl)
+none-of-all p zero (x ∷ xs) a = (rw a.0 (none-of-all p zero xs a.1).0, refl)
+none-of-all p (suc n) (x ∷ xs) a = rw a.0 (none-of-all p n xs a.1)
+
+-- where an item passes, so do all before it
+front-passes : {X : Type 0} (p : X → Bool) (half : ℕ) (xs : List X) (d : X) → Falls p xs → half < length xs → p (get_or xs half d) ≡ true → passing p xs ≡ half + passing p (drop half xs)
+front-passes p half [] d f l e = absurd (omega arith)
+front-passes p zero (x ∷ xs) d f l e = omega arith
+front-passes p (suc half) (x ∷ xs) d f l e = elim (cases_Bool (p x)) [
+  | inl s ↦ rw s (omega (arith, front-passes p half xs d f.1 (omega arith) e))
+  | inr s ↦ let n : p (get_or xs half d) ≡ false = all-get (λ y. p y ≡ false) xs half d (omega arith) (f.0 s) in absurd (true≢false (sym e ∙ n))
+]
+
+-- where one fails, so do all behind it
+rest-fails : {X : Type 0} (p : X → Bool) (half n : ℕ) (xs : List X) (d : X) → Falls p xs → half < length xs → half ≤ n → p (get_or xs half d) ≡ false → passing p xs ≡ passing p (take n xs)
+rest-fails p half n [] d f l m e = absurd (omega arith)
+rest-fails p zero n (x ∷ xs) d f l m e = let a = none-of-all p n (x ∷ xs) (e, f.0 e) in a.0 ∙ sym a.1
+rest-fails p (suc half) zero (x ∷ xs) d f l m e = absurd (omega (arith, m))
+rest-fails p (suc half) (suc n) (x ∷ xs) d f l m e = ap (λ k. cond (p x) (suc k) k) (rest-fails p half n xs d f.1 (omega arith) (omega (arith, m)) e)
+
+-- how many pass, by the item in the middle and one half
+pub half-passing : {X : Type 0} (p : X → Bool) (half bit n : ℕ) (xs : List X) (d : X) → Falls p xs → half < length xs → half + half ≤ length xs → bit ≡ from_bool (p (get_or xs half d)) → n ≡ length xs - half →
+    passing p xs ≡ half * bit + passing p (take n (drop (half * bit) xs))
+half-passing p half bit n xs d f l m q w = elim (cases_Bool (p (get_or xs half d))) [
+  | inl e ↦
+      let s : half * bit ≡ half = ap (λ k. half * k) (q ∙ ap from_bool e) ∙ omega arith in
+      let r : take n (drop half xs) ≡ drop half xs = ap (λ k. take k (drop half xs)) w ∙ take_rest xs half in
+      front-passes p half xs d f l e ∙ ap (λ ys. half + passing p ys) (sym r) ∙ ap (λ k. k + passing p (take n (drop k xs))) (sym s)
+  | inr e ↦
+      let s : half * bit ≡ 0 = ap (λ k. half * k) (q ∙ ap from_bool e) ∙ omega arith in
+      let z : passing p (take n xs) ≡ 0 + passing p (take n (drop 0 xs)) = omega arith in
+      rest-fails p half n xs d f l (omega (arith, m, w)) e ∙ z ∙ ap (λ k. k + passing p (take n (drop k xs))) (sym s)
+]
 
 -- where those that pass a test are at the front, as many pass as do there
 pub passing-place : {X : Type 0} (p : X → Bool) (xs : List X) → IsPartitionedBy p xs → passing p xs ≡ place p xs

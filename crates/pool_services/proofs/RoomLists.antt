@@ -49,6 +49,9 @@ rooms-fall : (p : Room → Bool) (es : List Extent) → Falls (λ (e : Extent). 
 rooms-fall p [] f = tt
 rooms-fall p (e ∷ es) f = ((λ n. all-rooms (λ (r : Room). p r ≡ false) es (f.0 n)), rooms-fall p es f.1)
 
+pub rooms-in-order : (page : ℕ) (rs : List Room) (es : List Extent) → AreExtents es → rs ≡ map room_of es → Falls (λ (r : Room). nat_le r.first page) rs
+rooms-in-order page rs es a e = subst (λ (zs : List Room). Falls (λ (r : Room). nat_le r.first page) zs) (sym e) (rooms-fall (λ (r : Room). nat_le r.first page) es (falls page es a))
+
 pub rooms-parted : (page : ℕ) (rs : List Room) (es : List Extent) → AreExtents es → rs ≡ map room_of es → IsPartitionedBy (λ (r : Room). nat_le r.first page) rs
 rooms-parted page rs es a e =
     subst (λ (zs : List Room). IsPartitionedBy (λ (r : Room). nat_le r.first page) zs) (sym e)

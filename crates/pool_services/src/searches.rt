@@ -19,13 +19,27 @@ fn count_each(rooms: &[Room], page: u64) -> usize
     count
 }
 
+/// The same for rooms in order, of which one half is not looked at.
+fn count_half(rooms: &[Room], page: u64) -> usize
+    ensures place { IsCountUpTo page rooms.now result }
+    ensures bound { result ≤ length rooms.now }
+{
+    if rooms.len() < 2 {
+        return count_each(rooms, page);
+    }
+    let half = rooms.len() / 2;
+    // A branch here would be foreseen wrongly half of the time.
+    let passed = half * usize::from(rooms[half].first <= page);
+    passed + count_each(&rooms[passed..passed + (rooms.len() - half)], page)
+}
+
 /// How many of the extents that have these rooms begin at or below a page.
 pub(crate) fn count_up_to(rooms: &[Room], page: u64) -> usize
     ensures place { IsCountUpTo page rooms.now result }
     ensures bound { result ≤ length rooms.now }
 {
     if rooms.len() <= FEW {
-        return count_each(rooms, page);
+        return count_half(rooms, page);
     }
     rooms.partition_point(
         |room: &Room| -> bool

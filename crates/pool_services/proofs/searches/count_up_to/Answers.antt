@@ -1,15 +1,9 @@
 use Rattle.std.proofs.Common.{rules, nat_le, ◌∙◌}
 use Rattle.std.proofs.lemmas.List.Sorted.{IsPartitionPoint-from_clause}
 use Rattle.pool_services.specs.declared.rooms.Room.{Room}
-use Rattle.pool_services.proofs.ExtentLists.{passing-place, place-is}
+use Rattle.pool_services.proofs.ExtentLists.{place-is}
 use Rattle.pool_services.proofs.RoomLists.{rooms-parted, rooms-place}
 use Rattle.pool_services.proofs.searches.count_up_to.Goals as goal
-
-pub returns-then-rooms-le-FEW-clause-place : goal.returns-then-rooms-le-FEW-clause-place
-returns-then-rooms-le-FEW-clause-place c es a e =
-    c.count_each.ensures.count
-    ∙ passing-place (λ (r : Room). nat_le r.first c.args.page) c.args.rooms.now (rooms-parted c.args.page c.args.rooms.now es a e)
-    ∙ rooms-place c.args.page c.args.rooms.now es e
 
 pub returns-clause-place : goal.returns-clause-place
 returns-clause-place c es a e =
