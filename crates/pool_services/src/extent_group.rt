@@ -94,6 +94,7 @@ impl<A: Allocator + Copy> ExtentGroup<A> {
     }
 
     /// The extent in which a page lies, if there is one.
+    #[inline(always)]
     pub(crate) fn holder(&self, page: u64) -> Option<usize>
         requires { AreExtents self.now.extents.items }
         ensures { IsPageHolder self.now.extents.items page result }

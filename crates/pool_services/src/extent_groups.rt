@@ -143,6 +143,7 @@ impl<A: Allocator + Copy> ExtentGroups<A> {
     }
 
     /// The extent in which a block with an address lies, if there is one.
+    #[inline(always)]
     pub(crate) fn holder(&self, address: u64) -> Option<Spot>
         ensures holder { IsHolderIn address (rows_of self.now) result }
         ensures apart { AreApart self.now }
