@@ -574,8 +574,8 @@ RafkudinUninstallProtocolInterface(struct rafkudin *core, rafkudin_uint64 Handle
 
 /* Uninstalls the `count` interfaces of an array from a handle, one after the other as
  * RafkudinUninstallProtocolInterface does, or none: a refusal leaves all of them, with what is open
- * on them. With no interfaces it returns SUCCESS. The standard's service takes the interfaces as
- * arguments.
+ * on them. With no interfaces it returns SUCCESS. It asks for no memory where no driver has one of
+ * them open and none is refused. The standard's service takes the interfaces as arguments.
  *
  * INVALID_PARAMETER: more than 16 interfaces; one that RafkudinUninstallProtocolInterface refuses
  * at its turn. */

@@ -36,6 +36,19 @@ static uint64_t uninstall(struct rafkudin *core, uint64_t handle, uint8_t byte, 
     return RafkudinUninstallProtocolInterface(core, handle, &guid, value);
 }
 
+/* Uninstalls interfaces of a handle in one call. Each has the byte of its GUID as its value. */
+static uint64_t uninstall_many(struct rafkudin *core, uint64_t handle, const char *bytes)
+{
+    struct rafkudin_interface interfaces[4];
+    size_t count = strlen(bytes);
+
+    for (size_t at = 0; at < count; at++) {
+        interfaces[at].guid = guid_of((uint8_t)bytes[at]);
+        interfaces[at].value = (uint8_t)bytes[at];
+    }
+    return RafkudinUninstallMultipleProtocolInterfaces(core, handle, interfaces, count);
+}
+
 static uint64_t reinstall(struct rafkudin *core, uint64_t handle, uint8_t byte, uint64_t old,
                           uint64_t new)
 {
@@ -628,6 +641,69 @@ static void try_children(void)
     RafkudinFree(core);
 }
 
+/* On handle 2 are the GUIDs 1, with an item that keeps nothing, 2, which the driver on handle 1 has
+ * open, 3, which is open exclusively, and 4. */
+static struct rafkudin *held_core(bool stops)
+{
+    struct rafkudin_driver driver = driver_for(1, 2, 2);
+    struct rafkudin *core;
+
+    driver.stops = stops;
+    core = small_core(&driver, 1);
+    HOLDS(install(core, 0, BINDING, 0) == 1 && install(core, 0, 1, 1) == 2);
+    for (uint8_t byte = 2; byte < 5; byte++)
+        HOLDS(install(core, 2, byte, byte) == 2);
+    HOLDS(connect(core, 2, false) == SUCCESS);
+    HOLDS(open(core, 2, 1, 1, 0, RAFKUDIN_GET_PROTOCOL) == SUCCESS);
+    HOLDS(open(core, 2, 3, 1, 0, RAFKUDIN_EXCLUSIVE) == SUCCESS);
+    return core;
+}
+
+/* All interfaces of a list stay where one of them can't go: its driver can't be stopped, it is
+ * kept, it is out already, or it never was there. */
+static void try_refused_lists(void)
+{
+    struct rafkudin *core = held_core(false);
+
+    HOLDS(uninstall_many(core, 2, "\4\2") == INVALID);
+    HOLDS(uninstall_many(core, 2, "\1\3") == INVALID);
+    HOLDS(uninstall_many(core, 2, "\4\1\4") == INVALID);
+    HOLDS(uninstall_many(core, 2, "\1\5") == INVALID);
+    HOLDS(uninstall_many(core, 2, "\2") == INVALID);
+    HOLDS(uninstall_many(core, 2, "\3") == INVALID);
+    HOLDS(uninstall_many(core, 3, "\1\4") == INVALID);
+    HOLDS(are_protocols(core, 2, "\1\2\3\4"));
+    for (uint8_t byte = 1; byte < 4; byte++)
+        HOLDS(item_count(core, 2, byte) == 1);
+    HOLDS(uninstall_many(core, 2, "\1\4") == SUCCESS);
+    HOLDS(are_protocols(core, 2, "\2\3"));
+    HOLDS(item_count(core, 2, 2) == 1 && item_count(core, 2, 3) == 1);
+    HOLDS(install(core, 2, 1, 1) == 2 && item_count(core, 2, 1) == 0);
+    RafkudinFree(core);
+}
+
+/* A list whose driver is stopped, single interfaces, and one with which the handle goes. */
+static void try_served_lists(void)
+{
+    struct rafkudin *core = held_core(true);
+
+    HOLDS(uninstall_many(core, 2, "") == SUCCESS);
+    HOLDS(are_protocols(core, 2, "\1\2\3\4"));
+    HOLDS(uninstall_many(core, 2, "\4\2") == SUCCESS);
+    HOLDS(are_protocols(core, 2, "\1\3"));
+    HOLDS(item_count(core, 2, 1) == 1 && item_count(core, 2, 3) == 1);
+    HOLDS(install(core, 2, 2, 2) == 2 && connect(core, 2, false) == SUCCESS);
+    HOLDS(uninstall_many(core, 2, "\2") == SUCCESS && uninstall_many(core, 2, "\1") == SUCCESS);
+    HOLDS(are_protocols(core, 2, "\3") && item_count(core, 2, 3) == 1);
+    HOLDS(install(core, 0, 1, 1) == 3 && install(core, 3, 4, 4) == 3);
+    HOLDS(open(core, 2, 3, 3, 0, RAFKUDIN_GET_PROTOCOL) == SUCCESS);
+    HOLDS(item_count(core, 2, 3) == 2);
+    HOLDS(uninstall_many(core, 3, "\4\1") == SUCCESS);
+    HAS(core, are_handles, 1, 2);
+    HOLDS(item_count(core, 2, 3) == 1);
+    RafkudinFree(core);
+}
+
 static void try_versions(void)
 {
     struct rafkudin_driver drivers[2] = {driver_for(1, 1, 1), driver_for(2, 1, 1)};
@@ -782,6 +858,8 @@ int main(void)
     try_exclusive();
     try_items();
     try_children();
+    try_refused_lists();
+    try_served_lists();
     try_versions();
     try_levels();
     try_open_children();

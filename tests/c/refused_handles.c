@@ -299,9 +299,11 @@ static void refuse_uninstallations(void)
     RafkudinFree(core);
 }
 
-/* A call uninstalls both interfaces of a handle: first one that nobody has open, then one that a
- * driver with a child has open on one handle in two. A copy of the lists takes memory before either
- * is out, and the stop of the driver once the first one is out, which then comes back. */
+/* Calls that uninstall all interfaces of a handle: of one handle in three two, the second of which
+ * a driver with a child has open; of the next such a second one alone; of the third two that nobody
+ * has open. A copy of the lists takes memory before the first interface is out, and the stop of the
+ * driver after that, whereupon the first one comes back. A single interface takes what the stop
+ * takes, and what nobody has open is uninstalled while all memory is refused. */
 static void refuse_uninstallations_of_all(void)
 {
     struct rafkudin_driver driver = driver_for(1, DRIVEN, DRIVEN);
@@ -310,17 +312,21 @@ static void refuse_uninstallations_of_all(void)
     add_child(&driver, 3, 0);
     core = core_with(&driver, 1);
     succeed(core, (struct call){INSTALL, 0, BINDING, 0, 0});
-    for (uint64_t handle = 2; handle < ROUNDS + 2; handle++) {
+    for (uint64_t handle = 2; handle < 3 * ROUNDS + 2; handle++) {
         succeed(core, (struct call){INSTALL, 0, 2, 0, 0});
         succeed(core, (struct call){INSTALL, handle, DRIVEN, 0, 0});
     }
-    for (uint64_t handle = 2; handle < ROUNDS + 2; handle += 2)
+    for (uint64_t handle = 2; handle < 3 * ROUNDS + 2; handle += 3) {
         succeed(core, (struct call){CONNECT, handle, 0, 0, 0});
-    for (uint64_t handle = 2; handle < ROUNDS + 2; handle += 2) {
-        unsigned long driven = refusals_of(core, (struct call){UNINSTALL_ALL, handle, 0, 0, 0});
-        unsigned long plain = refusals_of(core, (struct call){UNINSTALL_ALL, handle + 1, 0, 0, 0});
+        succeed(core, (struct call){CONNECT, handle + 1, 0, 0, 0});
+        succeed(core, (struct call){UNINSTALL, handle + 1, 2, 0, 0});
+    }
+    for (uint64_t handle = 2; handle < 3 * ROUNDS + 2; handle += 3) {
+        unsigned long both = refusals_of(core, (struct call){UNINSTALL_ALL, handle, 0, 0, 0});
+        unsigned long single = refusals_of(core, (struct call){UNINSTALL_ALL, handle + 1, 0, 0, 0});
 
-        HOLDS(plain > 0 && driven > plain);
+        HOLDS(single > 0 && both > single);
+        HOLDS(refusals_of(core, (struct call){UNINSTALL_ALL, handle + 2, 0, 0, 0}) == 0);
     }
     RafkudinFree(core);
 }

@@ -15,6 +15,7 @@ pub mod ProperRemovals
 pub mod Unopened
 pub mod Signals
 pub mod RemovedMany
+pub mod FreeToGo
 pub mod DriversNear
 pub mod Lives
 pub mod Decided

@@ -37,7 +37,8 @@ frees None can Does (Err e) old new s f h = absurd h
 freed_proper : (n : ℕ) (guid : List ℕ) (l : Lists) → AreProperLists l → AreProperLists (freed n guid l)
 freed_proper n guid l s = fewer_items (is_open_on n guid) (once_freed n guid l) (stopped_proper (drivers_on l.opens n guid) l s)
 
-removal_live : (t : HandleTable) (n : ℕ) (guid : List ℕ) (value : ℕ) → removal_refusal t n guid value ≡ None → is_live t n ≡ true
+-- a handle from which nothing is refused to go is live
+pub removal_live : (t : HandleTable) (n : ℕ) (guid : List ℕ) (value : ℕ) → removal_refusal t n guid value ≡ None → is_live t n ≡ true
 removal_live t n guid value e = elim (cases_Bool (is_live t n)) [
   | inl l ↦ l
   | inr l ↦ absurd (let k = rw l at e in cc)

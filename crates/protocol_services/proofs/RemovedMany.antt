@@ -47,6 +47,29 @@ one_refused ds handle p pairs status l new h =
     let f = refused (removal_refusal l.handles handle p.0 p.1) (can_be_freed ds l handle p.0) _ status l new h refl in
     rw f refl
 
+-- ---- a single one
+
+refused_stays : (refusal : Option Status) (can : Bool) (Does : Unit {0} → Type 0) (status : Status) (l new : Lists) → Frees refusal can Does (Err status) l new → new ≡ l
+refused_stays (Some r) can Does status l new h = h.1
+refused_stays None can Does AccessDenied l new h = h.1
+refused_stays None can Does OutOfResources l new h = h
+refused_stays None can Does status l new h = absurd h
+
+-- it goes, and so do all
+pub alone_gone : (ds : List Meaning) (handle : ℕ) (p : List ℕ × ℕ) (done : Unit {0}) (l new : Lists) → Uninstalls ds l handle p.0 p.1 (Ok done) new → UninstallsMany ds l handle (p ∷ []) (Ok done) new
+alone_gone ds handle p done l new h = (omega arith, next_uninstalled ds handle p [] done l new h)
+
+-- it is refused, and all stays
+pub alone_refused : (ds : List Meaning) (handle : ℕ) (p : List ℕ × ℕ) (status : Status) (l new : Lists) → Uninstalls ds l handle p.0 p.1 (Err status) new → UninstallsMany ds l handle (p ∷ []) (Err (refusal_of_all status)) new
+alone_refused ds handle p OutOfResources l new h = (omega arith, refused_stays (removal_refusal l.handles handle p.0 p.1) (can_be_freed ds l handle p.0) _ OutOfResources l new h)
+alone_refused ds handle p status l new h = ((λ few. one_refused ds handle p [] status l new h), refused_stays (removal_refusal l.handles handle p.0 p.1) (can_be_freed ds l handle p.0) _ status l new h)
+
+-- a list of one
+pub only_one : (pairs : List (List ℕ × ℕ)) (p : List ℕ × ℕ) → 1 ≤ length pairs → length pairs < 2 → p ≡ get_or pairs 0 p → p ∷ [] ≡ pairs
+only_one [] p least below is = absurd (omega arith)
+only_one (q ∷ []) p least below is = ap (λ (r : List ℕ × ℕ). r ∷ []) is
+only_one (q ∷ r ∷ more) p least below is = absurd (omega arith)
+
 -- ---- what they leave of the other lists
 
 uninstalled_registrations : (handle : ℕ) (guid : List ℕ) (l : Lists) → (uninstalled handle guid l).registrations ≡ l.registrations

@@ -10,9 +10,11 @@ use Rattle.open_agents.specs.declared.items.Manager.{Manager}
 use Rattle.driver_connect.specs.Drivers.{Meaning}
 use Rattle.driver_connect.proofs.Filters.{handles_none, names_none, pairs_none}
 use Rattle.driver_connect.proofs.NoPairs.{empty_set, none_made_by, nothing_hinders}
-use Rattle.protocol_services.specs.Lists.{Lists}
+use Rattle.protocol_services.specs.Lists.{Lists, IsRaised}
 use Rattle.protocol_services.specs.Stopping.{can_stop, once_stopped}
 use Rattle.protocol_services.specs.Removing.{can_be_freed, drivers_on, freed, once_freed, removal_refusal, uninstalled, without_opens_on, Uninstalls}
+use Rattle.protocol_services.specs.RemovalSteps.{uninstalled_idle}
+use Rattle.protocol_services.proofs.Freed.{uninstalled_raised}
 
 -- nothing hinders a stop of no pairs
 idle_stop : (ds : List Meaning) (l : Lists) (handle : ℕ) → can_stop ds l [] handle None ≡ true
@@ -55,15 +57,21 @@ with_registrations l handle guid = elim (cases_Bool (is_live (without_interface 
   | inr e ↦ rw e refl
 ]
 
--- What is taken out in place is what UninstallProtocolInterface leaves.
-pub uninstalled_in_place : (ds : List Meaning) (l left new : Lists) (handle : ℕ) (guid : List ℕ) (value : ℕ) → removal_refusal l.handles handle guid value ≡ None → is_driven l.opens handle guid ≡ false
-    → is_kept l.opens handle guid ≡ false → left ≡ uninstalled handle guid (without_opens_on handle guid (record l { registrations = [] })) → new ≡ record left { registrations = l.registrations }
-    → Uninstalls ds l handle guid value (Ok tt) new
-uninstalled_in_place ds l left new handle guid value none idle free e f =
-    rw none (
-      idle_free ds l handle guid idle ∙ ap not free,
-      f ∙ ap (λ (m : Lists). record m { registrations = l.registrations }) e ∙ with_registrations (without_opens_on handle guid l) handle guid ∙ ap (uninstalled handle guid) (sym (idle_freed l handle guid idle)),
-    )
+-- What is taken out of lists with no registrations is taken out of all lists.
+pub taken_out : (l left : Lists) (handle : ℕ) (guid : List ℕ) → left ≡ uninstalled_idle handle guid (record l { registrations = [] }) → record left { registrations = l.registrations } ≡ uninstalled_idle handle guid l
+taken_out l left handle guid e = ap (λ (m : Lists). record m { registrations = l.registrations }) e ∙ with_registrations (without_opens_on handle guid l) handle guid
+
+-- It is what UninstallProtocolInterface leaves.
+pub uninstalled_in_place : (ds : List Meaning) (l : Lists) (handle : ℕ) (guid : List ℕ) (value : ℕ) → removal_refusal l.handles handle guid value ≡ None → is_driven l.opens handle guid ≡ false
+    → is_kept l.opens handle guid ≡ false → Uninstalls ds l handle guid value (Ok tt) (uninstalled_idle handle guid l)
+uninstalled_in_place ds l handle guid value none idle free =
+    rw none (idle_free ds l handle guid idle ∙ ap not free, ap (uninstalled handle guid) (sym (idle_freed l handle guid idle)))
+
+-- No number is given then, and no count rises.
+pub in_place_raised : (l : Lists) (handle : ℕ) (guid : List ℕ) → is_driven l.opens handle guid ≡ false → IsRaised l (uninstalled_idle handle guid l)
+in_place_raised l handle guid idle =
+    let start : Lists = record l { registrations = [] } in
+    uninstalled_raised l (without_opens_on handle guid start) (uninstalled_idle handle guid start) (uninstalled_idle handle guid l) handle guid (sym (idle_freed start handle guid idle)) refl (sym (with_registrations (without_opens_on handle guid l) handle guid))
 
 -- What is kept stays.
 pub kept_in_place : (ds : List Meaning) (l : Lists) (handle : ℕ) (guid : List ℕ) (value : ℕ) → removal_refusal l.handles handle guid value ≡ None → is_driven l.opens handle guid ≡ false

@@ -9,7 +9,7 @@ use Rattle.open_agents.specs.OpenItems.{keeps}
 use Rattle.driver_connect.specs.Drivers.{Meaning}
 use Rattle.driver_connect.specs.Stopping.{PlannedStop, planned_stop, takes_item}
 use Rattle.protocol_services.specs.Lists.{Lists}
-use Rattle.protocol_services.specs.Removing.{Frees, Replaces, can_be_freed, drivers_among, drivers_on, freed, replaced, uninstalled}
+use Rattle.protocol_services.specs.Removing.{Frees, Replaces, can_be_freed, drivers_among, drivers_on, freed, replaced, uninstalled, without_opens_on}
 
 -- what the stop of the drivers of some items takes out
 abbrev pub stop_among : Lists → List OpenItem → PlannedStop
@@ -39,6 +39,10 @@ abbrev pub TakesOut : ℕ → List ℕ → HandleTable → List OpenRecord → H
     → Type 0
 TakesOut handle guid t opens new_t new_opens =
     lists_of new_t new_opens ≡ uninstalled handle guid (lists_of t opens)
+
+-- an interface that no driver has open goes, with the items on it
+abbrev pub uninstalled_idle : ℕ → List ℕ → Lists → Lists
+uninstalled_idle handle guid l = uninstalled handle guid (without_opens_on handle guid l)
 
 -- an interface is freed and has another value and a new stamp
 abbrev pub freed_and_replaced : ℕ → List ℕ → ℕ → Lists → Lists

@@ -1,7 +1,10 @@
 -- The rule of UninstallMultipleProtocolInterfaces: all of some interfaces go, or none.
 use Rattle.std.specs.Prelude.{◌≡◌, ℕ, ◌≤◌, ◌&&◌, not, Bool, cond, List, [], ◌∷◌, length, Option, Some, None, is_some, Result, Ok, Err}
+use Rattle.std.specs.List.{list_all}
 use Rattle.page_ranges.specs.declared.statuses.Status.{Status}
 use Rattle.page_ranges.specs.declared.statuses.Status.TheVariants.{InvalidParameter, OutOfResources}
+use Rattle.guid_handles.specs.HandleChanges.{has_guid_twice}
+use Rattle.open_agents.specs.OpenItems.{is_driven, is_kept}
 use Rattle.driver_connect.specs.Drivers.{Meaning}
 use Rattle.protocol_services.specs.Lists.{Lists}
 use Rattle.protocol_services.specs.Removing.{can_be_freed, freed, removal_refusal, uninstalled}
@@ -52,3 +55,18 @@ UninstallsEach ds l handle pairs (Err InvalidParameter) new =
     all_uninstalled ds handle pairs l ≡ None
 UninstallsEach ds l handle pairs (Err OutOfResources) new = Unit {0}
 UninstallsEach ds l handle pairs (Err status) new = ⊥
+
+-- An interface is free to go: it is there with the value, no driver has it open and no item keeps it.
+abbrev pub is_free_to_go : Lists → ℕ → List ℕ × ℕ → Bool
+is_free_to_go l handle p =
+    not (is_some (removal_refusal l.handles handle p.0 p.1))
+    && (not (is_driven l.opens handle p.0) && not (is_kept l.opens handle p.0))
+
+-- none of some interfaces is named twice, and each is free to go
+abbrev pub are_free_to_go : Lists → ℕ → List (List ℕ × ℕ) → Bool
+are_free_to_go l handle pairs =
+    not (has_guid_twice pairs) && list_all (is_free_to_go l handle) pairs
+
+-- Interfaces are uninstalled one after the other and none is refused, whatever the drivers mean.
+abbrev pub AllGo : Lists → ℕ → List (List ℕ × ℕ) → Lists → Type 0
+AllGo l handle pairs new = (ds : List Meaning) → all_uninstalled ds handle pairs l ≡ Some new

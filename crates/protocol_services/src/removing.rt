@@ -9,7 +9,7 @@ ghost use Rattle.driver_connect.specs.Stopping.{without_handles};
 ghost use Rattle.protocol_notify.specs.Registrations.{events_for};
 ghost use Rattle.protocol_services.specs.Lists.{HasRoom, IsRaised};
 ghost use Rattle.protocol_services.specs.Removing as spec;
-ghost use Rattle.protocol_services.specs.RemovalSteps.{FreesAndReplaces, PlansToFree, TakesOut, freed_and_replaced, leaves_keeper, stop_among, stop_to_free};
+ghost use Rattle.protocol_services.specs.RemovalSteps.{FreesAndReplaces, PlansToFree, TakesOut, freed_and_replaced, leaves_keeper, stop_among, stop_to_free, uninstalled_idle};
 
 use crate::protocols::Protocols;
 use driver_connect::{Driver, StopPlan, may_start_after, replace_and_connect};
@@ -21,7 +21,7 @@ use uuid::Uuid;
 
 /// Why uninstalling or reinstalling an interface with a value is refused before any driver is
 /// asked.
-fn removal_refusal<A: Allocator + Copy>(
+pub(crate) fn removal_refusal<A: Allocator + Copy>(
     handles: &Handles<A>,
     handle: u64,
     guid: Uuid,
@@ -225,9 +225,19 @@ impl<A: Allocator + Copy> Protocols<A> {
         if is_kept {
             return Err(Status::AccessDenied);
         }
+        self.take_idle_out(is_open, handle, guid);
+        Ok(())
+    }
+
+    /// Uninstalls an interface that no driver has open, with the items on it, and with the last one its handle.
+    /// This takes no memory.
+    pub(crate) fn take_idle_out(&mut self, is_open: bool, handle: u64, guid: Uuid)
+        requires open { is_open ≡ list_any (is_open_on handle guid) self.old.opens }
+        requires there { carries self.old.handles guid handle ≡ true }
+        ensures { self.new ≡ uninstalled_idle handle guid self.old }
+    {
         drop_items(&mut self.opens, is_open, handle, guid);
         take_out(&mut self.handles, &mut self.opens, handle, guid);
-        Ok(())
     }
 
     /// ReinstallProtocolInterface: gives the interface of a GUID another value, as if it were installed

@@ -1,9 +1,9 @@
 use Rattle.std.proofs.Common.{◌≡◌, [], map, None, refl, sym, ◌∙◌}
 use Rattle.protocol_services.specs.Lists.{Lists}
-use Rattle.protocol_services.specs.Removing.{removal_refusal, without_opens_on}
+use Rattle.protocol_services.specs.Removing.{removal_refusal}
 use Rattle.protocol_services.proofs.Raised.{stays_raised}
-use Rattle.protocol_services.proofs.Unopened.{idle_freed, kept_in_place, uninstalled_once_freed, uninstalled_in_place}
-use Rattle.protocol_services.proofs.Freed.{draft_carries, free_leaves, none_left, uninstalled_raised}
+use Rattle.protocol_services.proofs.Unopened.{in_place_raised, kept_in_place, uninstalled_once_freed, uninstalled_in_place}
+use Rattle.protocol_services.proofs.Freed.{draft_carries, free_leaves, none_left, served_carries, uninstalled_raised}
 use Rattle.protocol_services.proofs.protocols.Protocols.uninstall.Goals as goal
 
 pub take_out-requires : goal.take_out-requires
@@ -46,20 +46,20 @@ returns-then-is_kept-clause-uninstalls g c =
 pub returns-then-is_kept-clause-raised : goal.returns-then-is_kept-clause-raised
 returns-then-is_kept-clause-raised g c = stays_raised c.args.self.now
 
+pub take_idle_out-requires-clause-there : goal.take_idle_out-requires-clause-there
+take_idle_out-requires-clause-there g c =
+    let l : Lists = record { handles = c.self.inside.handles; opens = c.self.inside.opens; registrations = c.self.inside.registrations } in
+    let none : removal_refusal l.handles c.args.handle c.args.guid c.args.value ≡ None = sym c.removal_refusal.ensures ∙ none_left c.removal_refusal.result c.in_default.not-Some in
+    rw (← c.self.view_is) (served_carries l.handles c.args.handle c.args.guid c.args.value none)
+
 pub returns-clause-uninstalls : goal.returns-clause-uninstalls
 returns-clause-uninstalls g c =
     let l : Lists = record { handles = c.self.inside.handles; opens = c.self.inside.opens; registrations = c.self.inside.registrations } in
-    let left : Lists = record { handles = c.take_out-2.new.handles; opens = c.take_out-2.new.opens; registrations = [] } in
     let none : removal_refusal l.handles c.args.handle c.args.guid c.args.value ≡ None = sym c.removal_refusal.ensures ∙ none_left c.removal_refusal.result c.in_default.not-Some in
-    rw (← c.self.view_is)
-    (uninstalled_in_place (map g.D.Driver.meaning c.args.drivers.now) l left (record left { registrations = l.registrations }) c.args.handle c.args.guid c.args.value none (sym c.usage-is_open.ensures.driven ∙ c.if-is_driven.false)
-    (sym c.usage-is_open.ensures.kept ∙ c.if-is_kept.false) (rw c.drop_items.ensures at c.take_out-2.ensures) refl)
+    rw (c.take_idle_out.ensures, ← c.self.view_is)
+    (uninstalled_in_place (map g.D.Driver.meaning c.args.drivers.now) l c.args.handle c.args.guid c.args.value none (sym c.usage-is_open.ensures.driven ∙ c.if-is_driven.false) (sym c.usage-is_open.ensures.kept ∙ c.if-is_kept.false))
 
 pub returns-clause-raised : goal.returns-clause-raised
 returns-clause-raised g c =
     let l : Lists = record { handles = c.self.inside.handles; opens = c.self.inside.opens; registrations = c.self.inside.registrations } in
-    let start : Lists = record l { registrations = [] } in
-    let left : Lists = record { handles = c.take_out-2.new.handles; opens = c.take_out-2.new.opens; registrations = [] } in
-    rw (← c.self.view_is)
-    (uninstalled_raised l (without_opens_on c.args.handle c.args.guid start) left (record left { registrations = l.registrations }) c.args.handle c.args.guid
-    (sym (idle_freed start c.args.handle c.args.guid (sym c.usage-is_open.ensures.driven ∙ c.if-is_driven.false))) (rw c.drop_items.ensures at c.take_out-2.ensures) refl)
+    rw (c.take_idle_out.ensures, ← c.self.view_is) (in_place_raised l c.args.handle c.args.guid (sym c.usage-is_open.ensures.driven ∙ c.if-is_driven.false))

@@ -1,19 +1,32 @@
-use Rattle.std.proofs.Common.{map}
-use Rattle.protocol_services.proofs.Lives.{of_blocks, of_groups}
-use Rattle.protocol_services.proofs.RemovedMany.{all_raised}
+use Rattle.std.proofs.Common.{map, sym, subst, ◌∙◌, ℕ, List, arith}
+use Rattle.protocol_services.specs.RemovingMany.{UninstallsMany}
+use Rattle.protocol_services.proofs.RemovedMany.{all_raised, only_one}
 use Rattle.protocol_services.proofs.protocols.Protocols.uninstall_many.Goals as goal
 
+pub returns-in-len1-clause-uninstalls : goal.returns-in-len1-clause-uninstalls
+returns-in-len1-clause-uninstalls g c =
+    subst (λ (ps : List (List ℕ × ℕ)). UninstallsMany (map g.D.Driver.meaning c.args.drivers.now) c.args.self.now c.args.handle ps c.uninstall_one.result c.uninstall_one.new.self)
+    (only_one c.args.pairs.now c.pair-item.result c.in-len1.len_at_least c.in-len1.len_below c.pair-item.is) c.uninstall_one.ensures.uninstalls
+
+pub returns-in-len1-clause-raised : goal.returns-in-len1-clause-raised
+returns-in-len1-clause-raised g c = c.uninstall_one.ensures.raised
+
+pub take_each_out-requires : goal.take_each_out-requires
+take_each_out-requires g c = sym c.are_free_to_go.ensures ∙ c.if-are_free_to_go.true
+
+pub returns-then-are_free_to_go-clause-uninstalls : goal.returns-then-are_free_to_go-clause-uninstalls
+returns-then-are_free_to_go-clause-uninstalls g c = (omega (arith, c.if-pairs-gt-MAX_INSTALLED.false), c.take_each_out.ensures (map g.D.Driver.meaning c.args.drivers.now))
+
+pub returns-then-are_free_to_go-clause-raised : goal.returns-then-are_free_to_go-clause-raised
+returns-then-are_free_to_go-clause-raised g c =
+    let ds = map g.D.Driver.meaning c.args.drivers.now in
+    all_raised ds c.args.handle c.args.pairs.now c.args.self.now c.take_each_out.new.self (c.take_each_out.ensures ds)
+
+pub uninstall_or_put_back-requires : goal.uninstall_or_put_back-requires
+uninstall_or_put_back-requires g c = omega (arith, c.if-pairs-gt-MAX_INSTALLED.false)
+
+pub returns-clause-uninstalls : goal.returns-clause-uninstalls
+returns-clause-uninstalls g c = c.uninstall_or_put_back.ensures.uninstalls
+
 pub returns-clause-raised : goal.returns-clause-raised
-returns-clause-raised g c = all_raised (map g.D.Driver.meaning c.args.drivers.now) c.args.handle c.args.pairs.now c.args.self.now c.uninstall_each.new.self c.in_default-uninstall_each.ensures.each
-
-pub drop-saved-inside-requires-3 : goal.drop-saved-inside-requires-3
-drop-saved-inside-requires-3 g c = λ κs low. (of_blocks κs.0 g.row.A.lives low.0, low.1)
-
-pub drop-saved-inside-requires-5 : goal.drop-saved-inside-requires-5
-drop-saved-inside-requires-5 g c = λ κs low. (of_groups κs.0 g.row.A.lives low.0, low.1)
-
-pub drop-saved-inside-requires-7 : goal.drop-saved-inside-requires-7
-drop-saved-inside-requires-7 g c = λ κs low. (of_blocks κs.0 g.row.A.lives low.0, low.1)
-
-pub drop-saved-inside-requires-8 : goal.drop-saved-inside-requires-8
-drop-saved-inside-requires-8 g c = λ κs low. (of_blocks κs.0 g.row.A.lives low.0, low.1)
+returns-clause-raised g c = c.uninstall_or_put_back.ensures.raised
