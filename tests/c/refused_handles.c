@@ -307,21 +307,22 @@ static void refuse_uninstallations(void)
 static void refuse_uninstallations_of_all(void)
 {
     struct rafkudin_driver driver = driver_for(1, DRIVEN, DRIVEN);
+    const uint64_t end = 2 + 24 * 3;
     struct rafkudin *core;
 
     add_child(&driver, 3, 0);
     core = core_with(&driver, 1);
     succeed(core, (struct call){INSTALL, 0, BINDING, 0, 0});
-    for (uint64_t handle = 2; handle < 3 * ROUNDS + 2; handle++) {
+    for (uint64_t handle = 2; handle < end; handle++) {
         succeed(core, (struct call){INSTALL, 0, 2, 0, 0});
         succeed(core, (struct call){INSTALL, handle, DRIVEN, 0, 0});
     }
-    for (uint64_t handle = 2; handle < 3 * ROUNDS + 2; handle += 3) {
+    for (uint64_t handle = 2; handle < end; handle += 3) {
         succeed(core, (struct call){CONNECT, handle, 0, 0, 0});
         succeed(core, (struct call){CONNECT, handle + 1, 0, 0, 0});
         succeed(core, (struct call){UNINSTALL, handle + 1, 2, 0, 0});
     }
-    for (uint64_t handle = 2; handle < 3 * ROUNDS + 2; handle += 3) {
+    for (uint64_t handle = 2; handle < end; handle += 3) {
         unsigned long both = refusals_of(core, (struct call){UNINSTALL_ALL, handle, 0, 0, 0});
         unsigned long single = refusals_of(core, (struct call){UNINSTALL_ALL, handle + 1, 0, 0, 0});
 
