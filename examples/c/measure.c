@@ -7,16 +7,17 @@
  * allocations, of mixed types and sizes), crowded-65536 (of descriptors, where a request finds no
  * place), pool-10000 (of blocks), handles-64, handles-1024 or handles-4096 (of handles),
  * drivers-64, drivers-1024 or drivers-4096 (of handles, on which a driver is started and stopped),
- * children-64 or children-4096 (of handles, where that driver makes a child),
- * questions-64, questions-1024 or questions-4096 (of handles and blocks, which are asked for one by
- * one), keys-10000 (of registrations), paths-4000 or vain-paths-4000 (of handles with device paths
- * of nearly as many nodes as the one of 60,000 that is looked for, which take 1 GB), or chain-4096
- * (of handles, each the child of a driver on the one before); without any all are run. It prints
- * nanoseconds a call, the least of COUNT repetitions, each on a new core; what a call asks for is
- * drawn before the clock starts. `refused` is a call that is refused at once: what any call costs at
- * least. With --certify the core keeps the certificates of placements. With --growth two tables in
- * Markdown are printed: of what calls on pages cost in a churn at 100 live allocations, ten times as
- * many and so on up to MAX, and of a request that nothing can hold, without and with certificates. */
+ * driven-4096 (of handles, all of which are driven then), children-64 or children-4096 (of handles,
+ * where that driver makes a child), questions-64, questions-1024 or questions-4096 (of handles and
+ * blocks, which are asked for one by one), keys-10000 (of registrations), paths-4000 or
+ * vain-paths-4000 (of handles with device paths of nearly as many nodes as the one of 60,000 that
+ * is looked for, which take 1 GB), or chain-4096 (of handles, each the child of a driver on the one
+ * before); without any all are run. It prints nanoseconds a call, the least of COUNT repetitions,
+ * each on a new core; what a call asks for is drawn before the clock starts. `refused` is a call
+ * that is refused at once: what any call costs at least. With --certify the core keeps the
+ * certificates of placements. With --growth two tables in Markdown are printed: of what calls on
+ * pages cost in a churn at 100 live allocations, ten times as many and so on up to MAX, and of a
+ * request that nothing can hold, without and with certificates. */
 #include "fault.h"
 #include "loads.h"
 
@@ -467,10 +468,8 @@ static bool take_driven_out(struct load *load, size_t number)
            RAFKUDIN_SUCCESS;
 }
 
-static void run_drivers(struct load *load, size_t handles)
+static void start_and_stop(struct load *load, size_t handles, size_t driven)
 {
-    size_t driven = least_of(handles - 1, MAX_DRIVEN);
-
     install_driver(load);
     time_calls(load, "install", "InstallMultipleProtocolInterfaces", handles - 1,
                install_controller);
@@ -483,6 +482,16 @@ static void run_drivers(struct load *load, size_t handles)
     time_calls(load, "close", "CloseProtocol", driven, close_exclusive);
     time_calls(load, "start", "ConnectController", driven, start_driver);
     time_calls(load, "stop", "UninstallProtocolInterface", driven, take_driven_out);
+}
+
+static void run_drivers(struct load *load, size_t handles)
+{
+    start_and_stop(load, handles, least_of(handles - 1, MAX_DRIVEN));
+}
+
+static void run_driven(struct load *load, size_t handles)
+{
+    start_and_stop(load, handles, handles - 1);
 }
 
 /* The same drivers with a child each, which goes as its driver is stopped. One handle more can be made. */
@@ -634,6 +643,7 @@ static const struct {
     {"drivers-64", run_drivers, make_machine, 64, 15},
     {"drivers-1024", run_drivers, make_machine, 1024, 9},
     {"drivers-4096", run_drivers, make_machine, 4096, 5},
+    {"driven-4096", run_driven, make_machine, 4096, 3},
     {"children-64", run_children, make_machine, 64, 15},
     {"children-4096", run_children, make_machine, 4096, 5},
     {"questions-64", run_questions, make_machine, 64, 15},
