@@ -4,6 +4,9 @@ ghost use Rattle.text_lines.specs.Words.{is_blank, words_of};
 
 use std::alloc::{AllocError, Allocator};
 
+/// The words that nearly all lines have at most. Memory for them is taken at once.
+const MOST_WORDS: usize = 8;
+
 /// Whether a byte separates words: a space or a tab.
 fn is_blank(byte: u8) -> bool
     ensures { result ≡ is_blank byte }
@@ -15,7 +18,11 @@ fn is_blank(byte: u8) -> bool
 pub fn words_of<A: Allocator>(alloc: A, line: &[u8]) -> Result<Vec<&[u8], A>, AllocError>
     ensures { IfOk result (λ words. map (λ word. word.now) words.items ≡ words_of line.now) }
 {
-    line.split(|byte| is_blank(*byte))
-        .filter(|word| !word.is_empty())
-        .collect(alloc)
+    let mut words = Vec::new(alloc);
+    words.reserve(MOST_WORDS)?;
+    words.extend(
+        line.split(|byte| is_blank(*byte))
+            .filter(|word| !word.is_empty()),
+    )?;
+    Ok(words)
 }
