@@ -175,7 +175,8 @@ impl<A: Allocator + Copy> ItemStore<A> {
     pub(crate) fn drop_passing<T: ItemTest>(&mut self, block: BlockOf, test: &T) -> bool
         requires { (o : _) → T.meaning test.now o ≡ true → is_in_block block o ≡ true }
         ensures found { result ≡ list_any (T.meaning test.now) (items_in self.old) }
-        ensures left { items_in self.new ≡ without_items (T.meaning test.now) (items_in self.old) }
+        ensures remaining { items_in self.new
+            ≡ without_items (T.meaning test.now) (items_in self.old) }
     {
         let near = self.among(block);
         let mut found = find_last_passing(near, near.places.len(), test);

@@ -69,7 +69,7 @@ impl<A: Allocator + Copy> ExtentGroup<A> {
         Some(address)
     }
 
-    /// Gives the block that has an address back, which lies in an extent, unless it is the only one there.
+    /// Gives back the block that has an address in an extent, unless it is the only one there.
     #[inline(always)]
     pub(crate) fn give(&mut self, at: usize, address: u64) -> Freed
         requires order { AreExtents self.old.extents.items }

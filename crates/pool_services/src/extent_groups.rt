@@ -187,7 +187,7 @@ impl<A: Allocator + Copy> ExtentGroups<A> {
         self.groups[spot.group].take(spot.at, size)
     }
 
-    /// Gives the block that has an address back, which lies in an extent, unless it is the only one there.
+    /// Gives back the block that has an address in an extent, unless it is the only one there.
     #[inline(always)]
     pub(crate) fn give(&mut self, spot: Spot, address: u64) -> Freed
         requires { IsHolderIn address (rows_of self.old) (Some spot) }

@@ -158,7 +158,7 @@ impl<A: Allocator + Copy> PoolExtent<A> {
         Some(cell)
     }
 
-    /// The cell at which a block would begin that has an address, which lies in the extent.
+    /// The cell at which a block with an address in the extent would begin.
     fn cell_at(&self, address: u64) -> Option<usize>
         requires extent { IsExtent self.now }
         requires in_extent { HoldsAddress self.now address }
@@ -173,7 +173,7 @@ impl<A: Allocator + Copy> PoolExtent<A> {
         }
     }
 
-    /// Gives the block that has an address back, which lies in the extent, unless it is the only one.
+    /// Gives back the block that has an address in the extent, unless it is the only one there.
     #[inline(always)]
     pub(crate) fn give(&mut self, address: u64) -> Freed
         requires extent { IsExtent self.old }

@@ -112,7 +112,7 @@ impl<A: Allocator + Copy> Rooms<A> {
         found
     }
 
-    /// Says how many cells the longest run of a room has. Most often it stays as it is.
+    /// Sets how many cells the longest run of a room has. Most often that stays as it is.
     pub(crate) fn set_longest(&mut self, at: usize, longest: u32)
         requires { at < length self.old.rooms.items }
         ensures { HasLongestAt at longest self.old.rooms.items self.new.rooms.items }

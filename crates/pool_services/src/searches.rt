@@ -28,7 +28,7 @@ fn count_half(rooms: &[Room], page: u64) -> usize
         return count_each(rooms, page);
     }
     let half = rooms.len() / 2;
-    // A branch here would be foreseen wrongly half of the time.
+    // A branch here would be mispredicted half of the time.
     let passed = half * usize::from(rooms[half].first <= page);
     passed + count_each(&rooms[passed..passed + (rooms.len() - half)], page)
 }

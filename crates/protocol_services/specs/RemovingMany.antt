@@ -67,6 +67,6 @@ abbrev pub are_free_to_go : Lists → ℕ → List (List ℕ × ℕ) → Bool
 are_free_to_go l handle pairs =
     not (has_guid_twice pairs) && list_all (is_free_to_go l handle) pairs
 
--- Interfaces are uninstalled one after the other and none is refused, whatever the drivers mean.
+-- Interfaces are uninstalled one after the other and none is refused, whatever drivers there are.
 abbrev pub AllGo : Lists → ℕ → List (List ℕ × ℕ) → Lists → Type 0
 AllGo l handle pairs new = (ds : List Meaning) → all_uninstalled ds handle pairs l ≡ Some new

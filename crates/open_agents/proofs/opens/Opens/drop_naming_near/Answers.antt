@@ -6,4 +6,4 @@ pub drop_passing-requires : goal.drop_passing-requires
 drop_passing-requires g c = λ o h. beside_near c.args.handle o c.requires.handle h
 
 pub returns : goal.returns
-returns g c = rw (← c.self.view_is) (c.drop_passing.ensures.left ∙ named_beside c.args.handle _ (rw (← c.self.view_is) at c.requires.agent))
+returns g c = rw (← c.self.view_is) (c.drop_passing.ensures.remaining ∙ named_beside c.args.handle _ (rw (← c.self.view_is) at c.requires.agent))

@@ -34,8 +34,8 @@ returns-clause-found g c =
     ∙ finds_any (g.T.ItemTest.meaning c.args.test.now) (is_in_block c.args.block) c.args.self.now c.find_last_passing-found.result c.requires
     (rw (c.among-near.ensures.slots, c.among-near.ensures.places) at c.find_last_passing-found.ensures)
 
-pub returns-clause-left : goal.returns-clause-left
-returns-clause-left g c =
+pub returns-clause-remaining : goal.returns-clause-remaining
+returns-clause-remaining g c =
     none_dropped (g.T.ItemTest.meaning c.args.test.now) _
     (sym (finds_any (g.T.ItemTest.meaning c.args.test.now) (is_in_block c.args.block) c.loop-found.self c.loop-found.found c.requires c.loop-found.invariant.found) ∙ ap is_some c.in_default.is)
     ∙ c.loop-found.invariant.kept
