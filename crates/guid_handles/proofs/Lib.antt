@@ -18,7 +18,7 @@ pub mod Apart
 pub mod Found
 pub mod Stored
 pub mod Following
-pub mod GroupRows
+pub mod JoinedRows
 pub mod BlockLists
 pub mod PlaceLists
 pub mod Made

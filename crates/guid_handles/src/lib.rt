@@ -3,13 +3,14 @@
 
 mod block_group;
 mod blocks;
+mod few_places;
 mod groups;
 mod guid_group;
 mod guids;
 mod handle_keys;
 mod handle_row;
 mod handles;
-mod place_row;
+mod many_places;
 mod places;
 mod records;
 mod room;
