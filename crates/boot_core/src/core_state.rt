@@ -17,7 +17,8 @@ use device_path_locate::{has_path_installed, locate, locate_bytes};
 use driver_connect::Driver;
 use map_keys::{MapReply, get_memory_map};
 use page_ranges::{Descriptor, Status};
-use page_services::PageBook;
+use page_services::{PageBook, Placed};
+use placement_certificate::Certificate;
 use pool_services::{PoolMemory, Pools};
 use protocol_services::Protocols;
 use std::alloc::{AllocError, Allocator, Global};
@@ -169,22 +170,28 @@ impl<D: Driver, A: Allocator + Copy> Core<D, A> {
 
     /// AllocatePages: `pages` pages of the type `mtype`, anywhere (kind 0), up to the byte at the address
     /// `memory` (1), or at that address (2). For a type that fills granules they begin at a granule
-    /// and are rounded up to whole ones. The reply has their address, and for kinds 0 and 1 the
-    /// certificate of their place, where the core returns certificates.
+    /// and are rounded up to whole ones. Returns their address, and for kinds 0 and 1 the certificate of
+    /// their place, where the core returns certificates.
     ///
     /// INVALID_PARAMETER: another kind, a type that no request may name, or no pages. NOT_FOUND: the
     /// pages cannot be had at the address. OUT_OF_RESOURCES: kinds 0 and 1 have no permitted place, or
     /// memory ran out.
-    pub fn allocate_pages(&mut self, kind: u32, mtype: u32, pages: u64, memory: u64) -> Reply<A>
+    pub fn allocate_pages(
+        &mut self,
+        kind: u32,
+        mtype: u32,
+        pages: u64,
+        memory: u64,
+    ) -> Result<Placed<A>, Status>
         requires { 0 < self.old.state.calls_left }
         ensures step { CoreStep D.meaning self.old
-            (Call.AllocatePages kind mtype pages memory) result self.new }
+            (Call.AllocatePages kind mtype pages memory) (Reply.AllocatePages result) self.new }
         ensures drivers { self.new.drivers ≡ self.old.drivers }
     {
-        Reply::AllocatePages(match self.begin() {
+        match self.begin() {
             Ok(()) => self.book.allocate(kind, mtype, pages, memory),
             Err(status) => Err(status),
-        })
+        }
     }
 
     /// FreePages: `pages` pages from the address `memory` on are conventional again, and at each end so is
@@ -193,15 +200,16 @@ impl<D: Driver, A: Allocator + Copy> Core<D, A> {
     /// INVALID_PARAMETER: an unaligned address, no pages, or a range past the last page. NOT_FOUND: one
     /// of the pages was not placed by AllocatePages. OUT_OF_RESOURCES: memory ran out, where
     /// none is reserved; each AllocatePages that succeeds reserves it for one call.
-    pub fn free_pages(&mut self, memory: u64, pages: u64) -> Reply<A>
+    pub fn free_pages(&mut self, memory: u64, pages: u64) -> Result<(), Status>
         requires { 0 < self.old.state.calls_left }
-        ensures step { CoreStep D.meaning self.old (Call.FreePages memory pages) result self.new }
+        ensures step { CoreStep D.meaning self.old
+            (Call.FreePages memory pages) (Reply.FreePages result) self.new }
         ensures drivers { self.new.drivers ≡ self.old.drivers }
     {
-        Reply::FreePages(match self.begin() {
+        match self.begin() {
             Ok(()) => self.book.free(memory, pages),
             Err(status) => Err(status),
-        })
+        }
     }
 
     /// GetMemoryMap: the memory map, in the front of the buffer.
@@ -236,28 +244,35 @@ impl<D: Driver, A: Allocator + Copy> Core<D, A> {
         }
     }
 
-    /// AllocatePool: a block of a number of bytes, all 0, of the type `mtype`.
-    pub fn allocate_pool(&mut self, mtype: u32, size: u64) -> Reply<A>
+    /// AllocatePool: a block of a number of bytes, all 0, of the type `mtype`. Returns its address, and where
+    /// new pages were placed for it the certificate of their place, where the core returns certificates.
+    pub fn allocate_pool(
+        &mut self,
+        mtype: u32,
+        size: u64,
+    ) -> Result<(u64, Option<Certificate<A>>), Status>
         requires { 0 < self.old.state.calls_left }
-        ensures step { CoreStep D.meaning self.old (Call.AllocatePool mtype size) result self.new }
+        ensures step { CoreStep D.meaning self.old
+            (Call.AllocatePool mtype size) (Reply.AllocatePool result) self.new }
         ensures drivers { self.new.drivers ≡ self.old.drivers }
     {
-        Reply::AllocatePool(match self.begin() {
+        match self.begin() {
             Ok(()) => self.pools.allocate(&mut self.book, mtype, size),
             Err(status) => Err(status),
-        })
+        }
     }
 
     /// FreePool: gives the block at an address back. This takes no memory.
-    pub fn free_pool(&mut self, address: u64) -> Reply<A>
+    pub fn free_pool(&mut self, address: u64) -> Result<(), Status>
         requires { 0 < self.old.state.calls_left }
-        ensures step { CoreStep D.meaning self.old (Call.FreePool address) result self.new }
+        ensures step { CoreStep D.meaning self.old
+            (Call.FreePool address) (Reply.FreePool result) self.new }
         ensures drivers { self.new.drivers ≡ self.old.drivers }
     {
-        Reply::FreePool(match self.begin() {
+        match self.begin() {
             Ok(()) => self.pools.free(&mut self.book, address),
             Err(status) => Err(status),
-        })
+        }
     }
 
     /// Reads bytes of one pool block, from an address on, into a buffer.
@@ -296,16 +311,16 @@ impl<D: Driver, A: Allocator + Copy> Core<D, A> {
     /// Writes bytes into one pool block, from an address on.
     ///
     /// INVALID_PARAMETER: they do not lie in one block.
-    pub fn pool_write(&mut self, address: u64, bytes: &[u8]) -> Reply<A>
+    pub fn pool_write(&mut self, address: u64, bytes: &[u8]) -> Result<(), Status>
         requires { 0 < self.old.state.calls_left }
         ensures step { CoreStep D.meaning self.old
-            (Call.PoolWrite address bytes.now) result self.new }
+            (Call.PoolWrite address bytes.now) (Reply.PoolWrite result) self.new }
         ensures drivers { self.new.drivers ≡ self.old.drivers }
     {
-        Reply::PoolWrite(match self.begin() {
+        match self.begin() {
             Ok(()) => self.pools.write(address, bytes),
             Err(status) => Err(status),
-        })
+        }
     }
 
     /// InstallProtocolInterface: installs an interface, a GUID with a value, on a handle, or for handle 0 on a new one.
@@ -626,13 +641,17 @@ impl<D: Driver, A: Allocator + Copy> Core<D, A> {
                 mtype,
                 pages,
                 memory,
-            } => self.allocate_pages(*kind, *mtype, *pages, *memory),
-            Call::FreePages { memory, pages } => self.free_pages(*memory, *pages),
+            } => Reply::AllocatePages(self.allocate_pages(*kind, *mtype, *pages, *memory)),
+            Call::FreePages { memory, pages } => Reply::FreePages(self.free_pages(*memory, *pages)),
             Call::GetMemoryMap { size } => self.get_map_bytes(*size),
-            Call::AllocatePool { mtype, size } => self.allocate_pool(*mtype, *size),
-            Call::FreePool { address } => self.free_pool(*address),
+            Call::AllocatePool { mtype, size } => {
+                Reply::AllocatePool(self.allocate_pool(*mtype, *size))
+            }
+            Call::FreePool { address } => Reply::FreePool(self.free_pool(*address)),
             Call::PoolRead { address, size } => self.get_pool_bytes(*address, *size),
-            Call::PoolWrite { address, bytes } => self.pool_write(*address, bytes.as_slice()),
+            Call::PoolWrite { address, bytes } => {
+                Reply::PoolWrite(self.pool_write(*address, bytes.as_slice()))
+            }
             Call::InstallProtocolInterface {
                 handle,
                 guid,

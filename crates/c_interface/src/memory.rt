@@ -5,7 +5,7 @@ ghost use Rattle.c_interface.specs.Served.{AnswersStatus, AnswersRead};
 ghost use Rattle.c_interface.specs.Services.{AllocatesPages, AllocatesPool, Maps};
 
 use crate::efi_core::{ABORTED, EfiCore};
-use boot_core::Call;
+use boot_core::{Call, Reply};
 use map_keys::{DESCRIPTOR_VERSION, RECORD_SIZE};
 use page_ranges::Status;
 use std::alloc::Allocator;
@@ -28,7 +28,7 @@ impl<A: Allocator + Copy> EfiCore<A> {
         if !self.begin() {
             return ABORTED;
         }
-        let reply = self.core.allocate_pages(kind, mtype, pages, *memory);
+        let reply = Reply::AllocatePages(self.core.allocate_pages(kind, mtype, pages, *memory));
         self.return_number(reply, memory)
     }
 
@@ -39,7 +39,7 @@ impl<A: Allocator + Copy> EfiCore<A> {
         if !self.begin() {
             return ABORTED;
         }
-        let reply = self.core.free_pages(memory, pages);
+        let reply = Reply::FreePages(self.core.free_pages(memory, pages));
         self.return_status(reply)
     }
 
@@ -94,7 +94,7 @@ impl<A: Allocator + Copy> EfiCore<A> {
         if !self.begin() {
             return ABORTED;
         }
-        let reply = self.core.pool_write(address, bytes);
+        let reply = Reply::PoolWrite(self.core.pool_write(address, bytes));
         self.return_status(reply)
     }
 
@@ -108,7 +108,7 @@ impl<A: Allocator + Copy> EfiCore<A> {
         if !self.begin() {
             return ABORTED;
         }
-        let reply = self.core.allocate_pool(mtype, size);
+        let reply = Reply::AllocatePool(self.core.allocate_pool(mtype, size));
         self.return_number(reply, buffer)
     }
 
@@ -119,7 +119,7 @@ impl<A: Allocator + Copy> EfiCore<A> {
         if !self.begin() {
             return ABORTED;
         }
-        let reply = self.core.free_pool(address);
+        let reply = Reply::FreePool(self.core.free_pool(address));
         self.return_status(reply)
     }
 

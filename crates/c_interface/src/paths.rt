@@ -109,8 +109,8 @@ impl<A: Allocator + Copy> EfiCore<A> {
         ensures others { self.new ≡ with_core self.old self.new.core }
     {
         let written = self.core.pool_write(block, path);
-        if status_in(&written) != Status::Success {
-            return written;
+        if written.is_err() {
+            return Reply::PoolWrite(written);
         }
         let pair = [(device_path_guid(), block)];
         self.core.install_multiple(handle, &pair)

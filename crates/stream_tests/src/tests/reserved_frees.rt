@@ -1,6 +1,6 @@
 //! Pages and blocks that are freed while all memory is refused.
 use super::heaps::core_on;
-use boot_core::{Core, Reply};
+use boot_core::Core;
 use driver_connect::TableDriver;
 use page_ranges::{Descriptor, Status};
 use refusing_memory::Refusing;
@@ -28,11 +28,8 @@ fn place(
     pages: u64,
 ) -> Result<u64, Status> {
     assert!(rt; core.calls_left() > 0);
-    match core.allocate_pages(0, mtype, pages, 0) {
-        Reply::AllocatePages(Ok(placed)) => Ok(placed.address),
-        Reply::AllocatePages(Err(status)) => Err(status),
-        _ => panic!(rt; "the reply to another call"),
-    }
+    core.allocate_pages(0, mtype, pages, 0)
+        .map(|placed| placed.address)
 }
 
 /// Takes a block of the pool, and returns its address.
@@ -43,23 +40,15 @@ fn take_block(
     size: u64,
 ) -> Result<u64, Status> {
     assert!(rt; core.calls_left() > 0);
-    match core.allocate_pool(mtype, size) {
-        Reply::AllocatePool(Ok((address, _))) => Ok(address),
-        Reply::AllocatePool(Err(status)) => Err(status),
-        _ => panic!(rt; "the reply to another call"),
-    }
+    core.allocate_pool(mtype, size).map(|taken| taken.0)
 }
 
 /// Frees pages, or a block.
 fn free(rt: &impl Abort, core: &mut RefusedCore<'_>, taken: Taken) -> Result<(), Status> {
     assert!(rt; core.calls_left() > 0);
-    let reply = match taken {
+    match taken {
         Taken::Pages(address, pages) => core.free_pages(address, pages),
         Taken::Block(address) => core.free_pool(address),
-    };
-    match reply {
-        Reply::FreePages(answer) | Reply::FreePool(answer) => answer,
-        _ => panic!(rt; "the reply to another call"),
     }
 }
 
