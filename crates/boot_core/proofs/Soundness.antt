@@ -16,7 +16,7 @@ use Rattle.boot_calls.specs.declared.calls.Call.{Call}
 use Rattle.boot_calls.specs.declared.calls.Call.TheVariants as call
 use Rattle.boot_replies.specs.declared.replies.Reply.{Reply}
 use Rattle.boot_machines.specs.Machines.{IsMachine, MachineValue}
-use Rattle.boot_core.specs.Machines.{Parts, State, AreSound, first_state_with, parts_of}
+use Rattle.boot_core.specs.Machines.{Parts, State, AreSound, first_state_with, prepared_state, parts_of}
 use Rattle.open_agents.specs.declared.items.OpenItem.{OpenItem}
 use Rattle.open_agents.specs.OpenItems.{items_on}
 use Rattle.protocol_services.specs.ListBytes.{handle_bytes, item_bytes}
@@ -146,6 +146,11 @@ module _ (S : Setting) (permits : Permits S.chosen) where
 -- a machine before any call
 pub first_sound : (certifies : Bool) (machine : MachineValue) → IsMachine machine → AreSound (first_state_with certifies machine).parts
 first_sound certifies machine valid = record { proper = valid.runs.proper; granules = record { granule = valid.granule; whole = machine-granules machine.granule machine.runs valid.runs }; extents = tt; owned = given-keeps machine.runs valid.runs; reserved = omega arith }
+
+pub prepared_sound : (placements : ℕ) (certifies : Bool) (machine : MachineValue) → IsMachine machine → AreSound (prepared_state placements certifies machine).parts
+prepared_sound placements certifies machine valid =
+    let first = first_sound certifies machine valid in
+    record { proper = first.proper; granules = record { granule = first.granules.granule; whole = first.granules.whole }; extents = first.extents; owned = first.owned; reserved = first.reserved }
 
 pub sound_after : {A : Type 0} (S : Setting) → Permits S.chosen → (certifies : Bool) (machine : MachineValue) (calls : List (Call A)) (replies : List (Reply A)) (new : State) → IsMachine machine → CallRunBy S (first_state_with certifies machine) calls replies new → AreSound new.parts
 sound_after S permits certifies machine calls replies new valid run = run_sound S permits (first_state_with certifies machine) calls replies new (first_sound certifies machine valid) run

@@ -78,6 +78,11 @@ preparing_state placements s = with_book (preparing placements s.parts.book) s
 abbrev pub first_state_with : Bool → MachineValue → State
 first_state_with certifies machine = certifying_state certifies (first_state machine)
 
+-- the same, with memory reserved ahead for a number of placements
+abbrev pub prepared_state : ℕ → Bool → MachineValue → State
+prepared_state placements certifies machine =
+    preparing_state placements (first_state_with certifies machine)
+
 -- a state with another number of calls left
 abbrev pub leaving : ℕ → State → State
 leaving calls s = record { parts = s.parts; exited = s.exited; calls_left = calls }

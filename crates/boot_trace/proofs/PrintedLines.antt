@@ -35,12 +35,12 @@ use Rattle.boot_replies.specs.Certified.{left_request, list_request, request_for
 use Rattle.boot_replies.specs.Certified.{list_type}
 use Rattle.boot_calls.specs.CallNumbers.{NamesTypes}
 use Rattle.boot_machines.specs.Machines.{most_descriptors}
-use Rattle.boot_core.specs.Machines.{State, AreSound, first_state_with}
+use Rattle.boot_core.specs.Machines.{State, AreSound, prepared_state}
 use Rattle.boot_core.specs.Steps.{best_starts, Step}
 use Rattle.boot_core.proofs.Acceptances.{first_types, accepted_reply}
 use Rattle.boot_core.proofs.Outcomes.{outcome, stays_typed, stays_fitting, map_grows}
 use Rattle.boot_core.proofs.RecordPages.{HaveFields, first_fields, record_entries}
-use Rattle.boot_core.proofs.Soundness.{first_sound, stays_sound}
+use Rattle.boot_core.proofs.Soundness.{prepared_sound, stays_sound}
 use Rattle.machine_files.specs.MachineText.{ListedMachine, machine_of}
 use Rattle.machine_files.proofs.MachineOrder.{machine_in}
 use Rattle.text_lines.specs.Lines.{lines_of}
@@ -65,10 +65,10 @@ record IsReached (lines : ℕ) (s : State) : Type 0 where
   fields : HaveFields s.parts.book.memory
   few : length (memory_map s.parts.book.memory) ≤ most_descriptors + 2 * lines
 
-first_reached : (certifies : Bool) (file : List ℕ) (machine : ListedMachine) → machine_of file ≡ Ok machine → IsReached 0 (first_state_with certifies machine.machine)
-first_reached certifies file machine said =
+first_reached : (placements : ℕ) (certifies : Bool) (file : List ℕ) (machine : ListedMachine) → machine_of file ≡ Ok machine → IsReached 0 (prepared_state placements certifies machine.machine)
+first_reached placements certifies file machine said =
     let (valid, numbers, few, drivers) = machine_in file machine said in
-    record { sound = first_sound certifies machine.machine valid; typed = first_types machine.machine.runs valid.runs.mtypes; fields = first_fields machine.machine.runs numbers; few = omega (arith, entries_at_most machine.machine.runs valid.runs.runs) }
+    record { sound = prepared_sound placements certifies machine.machine valid; typed = first_types machine.machine.runs valid.runs.mtypes; fields = first_fields machine.machine.runs numbers; few = omega (arith, entries_at_most machine.machine.runs valid.runs.runs) }
 
 reached_later : (n : ℕ) (s : State) → IsReached n s → IsReached (n + 1) s
 reached_later n s is = record { sound = is.sound; typed = is.typed; fields = is.fields; few = omega (arith, is.few) }
@@ -196,12 +196,12 @@ module _ (A : Type 0) (ds : List Meaning) (certify : Bool) (Is : OfLine A) (of_l
     each_line (n + 1) (number + 1) lines mid rest new (reached_by_line A ds certify n number (line_of line) old first mid is (named_types line) prints) (omega arith) more,
   )
 
-  of_run : (certifies : Bool) (file bytes : List ℕ) (machine : ListedMachine) (count : ℕ) (new : State) (before after : Option (List ℕ)) (wrote : Wrote A ds certify bytes count (first_state_with certifies machine.machine) new before after) → machine_of file ≡ Ok machine → count ≤ most_lines → OfEachLine A ds certify Is 1 (take count (lines_of bytes)) (first_state_with certifies machine.machine) wrote.text new wrote.prints
-  of_run certifies file bytes machine count new before after wrote said few =
-      each_line 0 1 (take count (lines_of bytes)) (first_state_with certifies machine.machine) wrote.text new (first_reached certifies file machine said) (omega (arith, length-take count (lines_of bytes))) wrote.prints
+  of_run : (placements : ℕ) (certifies : Bool) (file bytes : List ℕ) (machine : ListedMachine) (count : ℕ) (new : State) (before after : Option (List ℕ)) (wrote : Wrote A ds certify bytes count (prepared_state placements certifies machine.machine) new before after) → machine_of file ≡ Ok machine → count ≤ most_lines → OfEachLine A ds certify Is 1 (take count (lines_of bytes)) (prepared_state placements certifies machine.machine) wrote.text new wrote.prints
+  of_run placements certifies file bytes machine count new before after wrote said few =
+      each_line 0 1 (take count (lines_of bytes)) (prepared_state placements certifies machine.machine) wrote.text new (first_reached placements certifies file machine said) (omega (arith, length-take count (lines_of bytes))) wrote.prints
 
-pub printed_blocks : {A : Type 0} (ds : List Meaning) (certifies : Bool) (file bytes : List ℕ) (machine : ListedMachine) (count : ℕ) (new : State) (before after : Option (List ℕ)) (wrote : Wrote A ds true bytes count (first_state_with certifies machine.machine) new before after) → machine_of file ≡ Ok machine → count ≤ most_lines → OfEachLine A ds true (PrintsAcceptedBlock A ds) 1 (take count (lines_of bytes)) (first_state_with certifies machine.machine) wrote.text new wrote.prints
+pub printed_blocks : {A : Type 0} (ds : List Meaning) (placements : ℕ) (certifies : Bool) (file bytes : List ℕ) (machine : ListedMachine) (count : ℕ) (new : State) (before after : Option (List ℕ)) (wrote : Wrote A ds true bytes count (prepared_state placements certifies machine.machine) new before after) → machine_of file ≡ Ok machine → count ≤ most_lines → OfEachLine A ds true (PrintsAcceptedBlock A ds) 1 (take count (lines_of bytes)) (prepared_state placements certifies machine.machine) wrote.text new wrote.prints
 printed_blocks {A = A} ds = of_run A ds true (PrintsAcceptedBlock A ds) (λ n number line old text new is below prints. block_of_line ds n old is below A number (line_of line) text new (call_numbers line) prints)
 
-pub printed_maps : {A : Type 0} (ds : List Meaning) (certify certifies : Bool) (file bytes : List ℕ) (machine : ListedMachine) (count : ℕ) (new : State) (before after : Option (List ℕ)) (wrote : Wrote A ds certify bytes count (first_state_with certifies machine.machine) new before after) → machine_of file ≡ Ok machine → count ≤ most_lines → OfEachLine A ds certify (PrintsReadMap A ds) 1 (take count (lines_of bytes)) (first_state_with certifies machine.machine) wrote.text new wrote.prints
+pub printed_maps : {A : Type 0} (ds : List Meaning) (certify : Bool) (placements : ℕ) (certifies : Bool) (file bytes : List ℕ) (machine : ListedMachine) (count : ℕ) (new : State) (before after : Option (List ℕ)) (wrote : Wrote A ds certify bytes count (prepared_state placements certifies machine.machine) new before after) → machine_of file ≡ Ok machine → count ≤ most_lines → OfEachLine A ds certify (PrintsReadMap A ds) 1 (take count (lines_of bytes)) (prepared_state placements certifies machine.machine) wrote.text new wrote.prints
 printed_maps {A = A} ds certify = of_run A ds certify (PrintsReadMap A ds) (λ n number line old text new is below prints. map_of_line ds n old is below A certify number (line_of line) text new prints)

@@ -12,7 +12,7 @@ use Rattle.boot_calls.specs.declared.calls.Call.TheVariants as call
 use Rattle.boot_replies.specs.declared.replies.Reply.{Reply}
 use Rattle.boot_replies.specs.declared.replies.Reply.TheVariants as reply
 use Rattle.boot_replies.specs.Certified.{certified}
-use Rattle.boot_core.specs.Machines.{State, first_state_with}
+use Rattle.boot_core.specs.Machines.{State, prepared_state}
 use Rattle.boot_core.specs.Steps.{Step}
 use Rattle.machine_files.specs.MachineText.{ListedMachine, machine_of}
 use Rattle.trace_lines.specs.declared.faults.TraceFault.{TraceFault}
@@ -40,16 +40,16 @@ OfEachLine A ds certify Is number (line ∷ lines) old text new
     × OfEachLine A ds certify Is (number + 1) lines mid rest new more
 
 -- it holds of each line whose text a run on a machine file and a trace wrote, whether the core
--- returns certificates or not
+-- returns certificates or not, and for however many placements it has memory reserved ahead
 abbrev pub OfRun : (A : Type 0) → List Meaning → Bool → OfLine A → Type 0
 OfRun A ds certify Is =
-    (certifies : Bool) (file bytes : List ℕ) (machine : ListedMachine) (count : ℕ) (new : State)
-    (before after : Option (List ℕ))
+    (placements : ℕ) (certifies : Bool) (file bytes : List ℕ) (machine : ListedMachine)
+    (count : ℕ) (new : State) (before after : Option (List ℕ))
     (wrote : Wrote A ds certify bytes count
-    (first_state_with certifies machine.machine) new before after) →
+    (prepared_state placements certifies machine.machine) new before after) →
     machine_of file ≡ Ok machine → count ≤ most_lines
     → OfEachLine A ds certify Is 1 (take count (lines_of bytes))
-    (first_state_with certifies machine.machine) wrote.text new wrote.prints
+    (prepared_state placements certifies machine.machine) wrote.text new wrote.prints
 
 -- ---- certificates
 

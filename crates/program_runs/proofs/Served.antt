@@ -7,10 +7,10 @@ use Rattle.machine_files.specs.declared.faults.MachineFault.TheVariants as machi
 use Rattle.machine_files.specs.DriverText.{listed, listed_meaning}
 use Rattle.machine_files.specs.MachineText.{ListedMachine, longest_file, root_of, machine_of}
 use Rattle.std.specs.declared.alloc.Global.{Global}
-use Rattle.boot_core.specs.Machines.{State, first_state_with}
+use Rattle.boot_core.specs.Machines.{State, prepared_state}
 use Rattle.trace_lines.specs.declared.run_faults.RunFault.{RunFault}
 use Rattle.boot_trace.specs.TraceRuns.{Ends}
-use Rattle.program_runs.specs.Serving.{IsRead, RunsTrace}
+use Rattle.program_runs.specs.Serving.{IsRead, RunsTrace, prepared_placements}
 
 -- a file that is too long is none of a machine
 too_long : (bytes : List ℕ) → longest_file < length bytes → machine_of bytes ≡ Err machine_fault.TooLong
@@ -35,11 +35,11 @@ same_meanings meaning same handed drivers e = ap (map meaning) e ∙ map_twice m
 
 -- what ran on the bytes that were read ran on the file
 pub runs_file : (certify : Bool) (file trace : Option (List ℕ)) (bytes : List ℕ) (machine : ListedMachine) (ds : List Meaning) (core new : State) (before after : Option (List ℕ)) (end : Result (Unit {0}) RunFault) → IfSome file (λ f. IsRead f bytes) → machine_of bytes ≡ Ok machine
-    → ds ≡ map listed_meaning machine.drivers → core ≡ first_state_with certify machine.machine → IfSome trace (λ t. Ends Global ds certify t core new before after end) → IfSome file (λ f. RunsTrace certify f trace before after end)
+    → ds ≡ map listed_meaning machine.drivers → core ≡ prepared_state prepared_placements certify machine.machine → IfSome trace (λ t. Ends Global ds certify t core new before after end) → IfSome file (λ f. RunsTrace certify f trace before after end)
 runs_file certify None trace bytes machine ds core new before after end r m d e h = tt
 runs_file certify (Some f) trace bytes machine ds core new before after end r m d e h = (machine, read_means f bytes r ∙ m, ran trace h)
   where
-    ran : (t : Option (List ℕ)) → IfSome t (λ lines. Ends Global ds certify lines core new before after end) → IfSome t (λ lines. (last : State) × Ends Global (map listed_meaning machine.drivers) certify lines (first_state_with certify machine.machine) last before after end)
+    ran : (t : Option (List ℕ)) → IfSome t (λ lines. Ends Global ds certify lines core new before after end) → IfSome t (λ lines. (last : State) × Ends Global (map listed_meaning machine.drivers) certify lines (prepared_state prepared_placements certify machine.machine) last before after end)
     ran None k = tt
     ran (Some lines) k =
         (new, subst (λ (s : State). Ends Global (map listed_meaning machine.drivers) certify lines s new before after end) e (subst (λ (m : List Meaning). Ends Global m certify lines core new before after end) d k))

@@ -5,7 +5,7 @@ use Rattle.std.specs.declared.alloc.Global.{Global}
 use Rattle.certificate_blocks.specs.declared.faults.BlockFault.{BlockFault}
 use Rattle.certificate_blocks.specs.BlockChecks.{Judges, Writes}
 use Rattle.text_lines.specs.Printed.{WritesFront, line_feed}
-use Rattle.boot_core.specs.Machines.{State, first_state_with}
+use Rattle.boot_core.specs.Machines.{State, prepared_state}
 use Rattle.machine_files.specs.declared.faults.MachineFault.TheVariants as machine_fault
 use Rattle.trace_lines.specs.declared.run_faults.RunFault.{RunFault}
 use Rattle.machine_files.specs.DriverText.{listed_meaning}
@@ -19,6 +19,10 @@ abbrev pub IsRead : List ℕ → List ℕ → Type 0
 IsRead file bytes =
     (rest : List ℕ) × (file ≡ bytes ++ rest) × ((rest ≡ []) ⊎ (longest_file < length bytes))
 
+-- for how many placements memory is reserved ahead before the first call
+abbrev pub prepared_placements : ℕ
+prepared_placements = 128
+
 -- The file is a machine's, and the run of a trace of known bytes on that machine, with its drivers,
 -- ends so. The core returns certificates where they are asked for.
 abbrev pub RunsTrace : Bool → List ℕ → Option (List ℕ) → Option (List ℕ) → Option (List ℕ)
@@ -28,7 +32,7 @@ RunsTrace certify file trace before after end =
     × IfSome trace
     (λ bytes. (new : State)
     × Ends Global (map listed_meaning machine.drivers) certify bytes
-    (first_state_with certify machine.machine) new before after end)
+    (prepared_state prepared_placements certify machine.machine) new before after end)
 
 -- How the program ends on a machine file and a trace, and what it wrote. It runs the trace on the
 -- machine; where there is a fault before that, nothing is written. No such run ends on a trace that

@@ -25,6 +25,9 @@ pub const USAGE: u8 = 2;
 /// The status of a block that is refused.
 pub const REFUSED: u8 = 3;
 
+/// For how many placements a run reserves memory before its first call.
+const PREPARED_PLACEMENTS: usize = 128;
+
 /// How many bytes are asked of the machine file at a time.
 const PIECE: usize = 8192;
 
@@ -170,6 +173,9 @@ pub fn run_files<M: Read + Drop, T: Read + Drop, W: Write>(
         return Err(Fault::OutOfMemory);
     };
     core.certify(certify);
+    let Ok(()) = core.prepare(PREPARED_PLACEMENTS) else {
+        return Err(Fault::OutOfMemory);
+    };
     match boot_trace::run(alloc, &mut core, trace, out, certify) {
         Ok(()) => Ok(()),
         Err(fault) => Err(Fault::Run(fault)),
