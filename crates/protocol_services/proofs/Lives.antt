@@ -6,37 +6,33 @@ use contract.BorrowLft.{◌⊑◌, ⊑_meet, ⊑_static}
 once : (κ lives : Lft) → κ ⊑ lives → κ ⊑ lives ++ []
 once κ lives low = ⊑_meet κ lives [] low (⊑_static κ)
 
+-- a list of values without lifetimes
+abbrev listed : Lft → Lft
+listed lives = (lives ++ []) ++ (lives ++ [])
+
+of_list : (κ lives : Lft) → κ ⊑ lives → κ ⊑ listed lives
+of_list κ lives low = let one = once κ lives low in ⊑_meet κ (lives ++ []) (lives ++ []) one one
+
 -- a row
 abbrev row : Lft → Lft
-row lives = (lives ++ []) ++ (((lives ++ []) ++ (lives ++ [])) ++ [])
+row lives = (lives ++ []) ++ (listed lives ++ [])
 
 of_row : (κ lives : Lft) → κ ⊑ lives → κ ⊑ row lives
-of_row κ lives low =
-    let one = once κ lives low in ⊑_meet κ (lives ++ []) (((lives ++ []) ++ (lives ++ [])) ++ []) one (once κ ((lives ++ []) ++ (lives ++ [])) (⊑_meet κ (lives ++ []) (lives ++ []) one one))
+of_row κ lives low = ⊑_meet κ (lives ++ []) (listed lives ++ []) (once κ lives low) (once κ (listed lives) (of_list κ lives low))
 
--- a row of places, which lie in it or in a row of their own
-abbrev place_row : Lft → Lft
-place_row lives = (lives ++ []) ++ (((lives ++ []) ++ ((row lives ++ []) ++ [])) ++ [])
-
-of_place_row : (κ lives : Lft) → κ ⊑ lives → κ ⊑ place_row lives
-of_place_row κ lives low =
-    let one = once κ lives low in
-    let own = once κ (row lives ++ []) (once κ (row lives) (of_row κ lives low)) in
-    ⊑_meet κ (lives ++ []) (((lives ++ []) ++ ((row lives ++ []) ++ [])) ++ []) one
-    (once κ ((lives ++ []) ++ ((row lives ++ []) ++ [])) (⊑_meet κ (lives ++ []) ((row lives ++ []) ++ []) one own))
-
--- a list of rows of places
+-- a list of rows
 abbrev rows : Lft → Lft
-rows lives = (place_row lives ++ (lives ++ [])) ++ (lives ++ [])
+rows lives = (row lives ++ (lives ++ [])) ++ (lives ++ [])
 
 of_rows : (κ lives : Lft) → κ ⊑ lives → κ ⊑ rows lives
 of_rows κ lives low =
-    let one = once κ lives low in
-    ⊑_meet κ (place_row lives ++ (lives ++ [])) (lives ++ []) (⊑_meet κ (place_row lives) (lives ++ []) (of_place_row κ lives low) one) one
+    let one = once κ lives low in ⊑_meet κ (row lives ++ (lives ++ [])) (lives ++ []) (⊑_meet κ (row lives) (lives ++ []) (of_row κ lives low) one) one
 
--- a group of blocks
-pub of_blocks : (κ lives : Lft) → κ ⊑ lives → κ ⊑ (lives ++ []) ++ (rows lives ++ [])
-of_blocks κ lives low = ⊑_meet κ (lives ++ []) (rows lives ++ []) (once κ lives low) (once κ (rows lives) (of_rows κ lives low))
+-- a group of blocks, with a list and a list of rows
+pub of_blocks : (κ lives : Lft) → κ ⊑ lives → κ ⊑ (lives ++ []) ++ (listed lives ++ (rows lives ++ []))
+of_blocks κ lives low =
+    ⊑_meet κ (lives ++ []) (listed lives ++ (rows lives ++ [])) (once κ lives low)
+    (⊑_meet κ (listed lives) (rows lives ++ []) (of_list κ lives low) (once κ (rows lives) (of_rows κ lives low)))
 
 -- a group of handles, with three rows
 pub of_groups : (κ lives : Lft) → κ ⊑ lives → κ ⊑ (lives ++ []) ++ (row lives ++ (row lives ++ (row lives ++ [])))
