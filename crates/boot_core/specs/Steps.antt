@@ -209,10 +209,10 @@ Step ds old c answer new = StepBy (best_starts ds) old c answer new
 abbrev pub StepAny : {A : Type 0} → List Meaning → State → Call A → Reply A → State → Type 0
 StepAny ds old c answer new = StepBy (any_starts ds) old c answer new
 
--- a core serves a call with a reply, and its drivers answer so
-abbrev pub Serves : {D A : Type 0} → (D → Meaning) → CoreValue D → Call A → Reply A
+-- a call of a core returns a reply, and its drivers answer so
+abbrev pub Calls : {D A : Type 0} → (D → Meaning) → CoreValue D → Call A → Reply A
     → CoreValue D → Type 0
-Serves meaning old c answer new = Step (map meaning old.drivers) old.state c answer new.state
+Calls meaning old c answer new = Step (map meaning old.drivers) old.state c answer new.state
 
 -- What GetMemoryMap does with a buffer of the caller's: its reply, the buffer after it, and the
 -- machine, which is as it was but for one call less.

@@ -4,7 +4,7 @@ ghost use Rattle.page_ranges.specs.Memory.{IsProperMemory};
 ghost use Rattle.page_ranges.specs.MemoryMap.{memory_map};
 ghost use Rattle.boot_core.specs.Machines.{certifying_state, first_state, leaving, most_calls, preparing_state, FollowsCalls, IsUnused};
 ghost use Rattle.boot_core.specs.PathSteps.{LocateStep};
-ghost use Rattle.boot_core.specs.Steps.{IsCounted, MapStep, ReadStep, Serves, CallRun};
+ghost use Rattle.boot_core.specs.Steps.{IsCounted, MapStep, ReadStep, Calls, CallRun};
 
 use crate::map_buffers::{map_in_buffer, refused_map};
 use crate::pool_buffers::{read_bytes, returned_status};
@@ -178,7 +178,7 @@ impl<D: Driver, A: Allocator + Copy> Core<D, A> {
         memory: u64,
     ) -> Result<Placed<A>, Status>
         requires { 0 < self.old.state.calls_left }
-        ensures step { Serves D.meaning self.old
+        ensures step { Calls D.meaning self.old
             (Call.AllocatePages kind mtype pages memory) (Reply.AllocatePages result) self.new }
         ensures drivers { self.new.drivers ≡ self.old.drivers }
     {
@@ -196,7 +196,7 @@ impl<D: Driver, A: Allocator + Copy> Core<D, A> {
     /// none is reserved; each AllocatePages that succeeds reserves it for one call.
     pub fn free_pages(&mut self, memory: u64, pages: u64) -> Result<(), Status>
         requires { 0 < self.old.state.calls_left }
-        ensures step { Serves D.meaning self.old
+        ensures step { Calls {A = A} D.meaning self.old
             (Call.FreePages memory pages) (Reply.FreePages result) self.new }
         ensures drivers { self.new.drivers ≡ self.old.drivers }
     {
@@ -223,7 +223,7 @@ impl<D: Driver, A: Allocator + Copy> Core<D, A> {
     // GetMemoryMap with a buffer of its own in place of one of a given size.
     fn get_map_bytes(&mut self, size: u64) -> Reply<A>
         requires { 0 < self.old.state.calls_left }
-        ensures step { Serves D.meaning self.old (Call.GetMemoryMap size) result self.new }
+        ensures step { Calls D.meaning self.old (Call.GetMemoryMap size) result self.new }
         ensures drivers { self.new.drivers ≡ self.old.drivers }
     {
         match self.begin() {
@@ -246,7 +246,7 @@ impl<D: Driver, A: Allocator + Copy> Core<D, A> {
         size: u64,
     ) -> Result<(u64, Option<Certificate<A>>), Status>
         requires { 0 < self.old.state.calls_left }
-        ensures step { Serves D.meaning self.old
+        ensures step { Calls {A = A} D.meaning self.old
             (Call.AllocatePool mtype size) (Reply.AllocatePool result) self.new }
         ensures drivers { self.new.drivers ≡ self.old.drivers }
     {
@@ -259,7 +259,7 @@ impl<D: Driver, A: Allocator + Copy> Core<D, A> {
     /// FreePool: gives the block at an address back. This takes no memory.
     pub fn free_pool(&mut self, address: u64) -> Result<(), Status>
         requires { 0 < self.old.state.calls_left }
-        ensures step { Serves D.meaning self.old
+        ensures step { Calls {A = A} D.meaning self.old
             (Call.FreePool address) (Reply.FreePool result) self.new }
         ensures drivers { self.new.drivers ≡ self.old.drivers }
     {
@@ -286,7 +286,7 @@ impl<D: Driver, A: Allocator + Copy> Core<D, A> {
     // The same with a buffer of its own in place of one of a given size.
     fn get_pool_bytes(&mut self, address: u64, size: u64) -> Reply<A>
         requires { 0 < self.old.state.calls_left }
-        ensures step { Serves D.meaning self.old (Call.PoolRead address size) result self.new }
+        ensures step { Calls D.meaning self.old (Call.PoolRead address size) result self.new }
         ensures drivers { self.new.drivers ≡ self.old.drivers }
     {
         let alloc = self.book.table().allocator();
@@ -307,7 +307,7 @@ impl<D: Driver, A: Allocator + Copy> Core<D, A> {
     /// INVALID_PARAMETER: they do not lie in one block.
     pub fn pool_write(&mut self, address: u64, bytes: &[u8]) -> Result<(), Status>
         requires { 0 < self.old.state.calls_left }
-        ensures step { Serves D.meaning self.old
+        ensures step { Calls {A = A} D.meaning self.old
             (Call.PoolWrite address bytes.now) (Reply.PoolWrite result) self.new }
         ensures drivers { self.new.drivers ≡ self.old.drivers }
     {
@@ -327,7 +327,7 @@ impl<D: Driver, A: Allocator + Copy> Core<D, A> {
         value: u64,
     ) -> Reply<A>
         requires { 0 < self.old.state.calls_left }
-        ensures step { Serves D.meaning self.old
+        ensures step { Calls D.meaning self.old
             (Call.InstallProtocolInterface handle guid kind value) result self.new }
         ensures drivers { self.new.drivers ≡ self.old.drivers }
     {
@@ -341,7 +341,7 @@ impl<D: Driver, A: Allocator + Copy> Core<D, A> {
     /// all of them, or none. ALREADY_STARTED: one is a device path that a live handle has already.
     pub fn install_multiple(&mut self, handle: u64, pairs: &[(Uuid, u64)]) -> Reply<A>
         requires { 0 < self.old.state.calls_left }
-        ensures step { Serves D.meaning self.old
+        ensures step { Calls D.meaning self.old
             (Call.InstallMultipleProtocolInterfaces handle pairs.now) result self.new }
         ensures drivers { self.new.drivers ≡ self.old.drivers }
     {
@@ -358,7 +358,7 @@ impl<D: Driver, A: Allocator + Copy> Core<D, A> {
     /// are stopped. A handle goes with its last interface.
     pub fn uninstall(&mut self, handle: u64, guid: Uuid, value: u64) -> Reply<A>
         requires { 0 < self.old.state.calls_left }
-        ensures step { Serves D.meaning self.old
+        ensures step { Calls D.meaning self.old
             (Call.UninstallProtocolInterface handle guid value) result self.new }
         ensures drivers { self.new.drivers ≡ self.old.drivers }
     {
@@ -374,7 +374,7 @@ impl<D: Driver, A: Allocator + Copy> Core<D, A> {
     /// and connects the handle. The reply has the events.
     pub fn reinstall(&mut self, handle: u64, guid: Uuid, old_value: u64, new_value: u64) -> Reply<A>
         requires { 0 < self.old.state.calls_left }
-        ensures step { Serves D.meaning self.old
+        ensures step { Calls D.meaning self.old
             (Call.ReinstallProtocolInterface handle guid old_value new_value) result self.new }
         ensures drivers { self.new.drivers ≡ self.old.drivers }
     {
@@ -394,7 +394,7 @@ impl<D: Driver, A: Allocator + Copy> Core<D, A> {
     /// on. The reply has the key of the registration.
     pub fn register_protocol_notify(&mut self, guid: Uuid, event: u64) -> Reply<A>
         requires { 0 < self.old.state.calls_left }
-        ensures step { Serves D.meaning self.old
+        ensures step { Calls D.meaning self.old
             (Call.RegisterProtocolNotify guid event) result self.new }
         ensures drivers { self.new.drivers ≡ self.old.drivers }
     {
@@ -409,7 +409,7 @@ impl<D: Driver, A: Allocator + Copy> Core<D, A> {
     /// bytes each.
     pub fn locate_handle(&mut self, search: u32, guid: Uuid, key: u64, size: u64) -> Reply<A>
         requires { 0 < self.old.state.calls_left }
-        ensures step { Serves D.meaning self.old
+        ensures step { Calls D.meaning self.old
             (Call.LocateHandle search guid key size) result self.new }
         ensures drivers { self.new.drivers ≡ self.old.drivers }
     {
@@ -426,7 +426,7 @@ impl<D: Driver, A: Allocator + Copy> Core<D, A> {
     /// LocateHandleBuffer: the handles of such a search in a pool block, which the caller frees.
     pub fn locate_handle_buffer(&mut self, search: u32, guid: Uuid, key: u64) -> Reply<A>
         requires { 0 < self.old.state.calls_left }
-        ensures step { Serves D.meaning self.old
+        ensures step { Calls D.meaning self.old
             (Call.LocateHandleBuffer search guid key) result self.new }
         ensures drivers { self.new.drivers ≡ self.old.drivers }
     {
@@ -447,7 +447,7 @@ impl<D: Driver, A: Allocator + Copy> Core<D, A> {
     /// it, else on the handle that is next for the key, which is taken.
     pub fn locate_protocol(&mut self, guid: Uuid, key: u64) -> Reply<A>
         requires { 0 < self.old.state.calls_left }
-        ensures step { Serves D.meaning self.old (Call.LocateProtocol guid key) result self.new }
+        ensures step { Calls D.meaning self.old (Call.LocateProtocol guid key) result self.new }
         ensures drivers { self.new.drivers ≡ self.old.drivers }
     {
         Reply::LocateProtocol(match self.begin() {
@@ -459,7 +459,7 @@ impl<D: Driver, A: Allocator + Copy> Core<D, A> {
     /// ProtocolsPerHandle: the GUIDs on a handle, in order of installation.
     pub fn protocols_per_handle(&mut self, handle: u64) -> Reply<A>
         requires { 0 < self.old.state.calls_left }
-        ensures step { Serves D.meaning self.old
+        ensures step { Calls D.meaning self.old
             (Call.ProtocolsPerHandle handle) result self.new }
         ensures drivers { self.new.drivers ≡ self.old.drivers }
     {
@@ -479,7 +479,7 @@ impl<D: Driver, A: Allocator + Copy> Core<D, A> {
         attributes: u32,
     ) -> Reply<A>
         requires { 0 < self.old.state.calls_left }
-        ensures step { Serves D.meaning self.old
+        ensures step { Calls D.meaning self.old
             (Call.OpenProtocol handle guid agent controller attributes) result self.new }
         ensures drivers { self.new.drivers ≡ self.old.drivers }
     {
@@ -505,7 +505,7 @@ impl<D: Driver, A: Allocator + Copy> Core<D, A> {
         controller: u64,
     ) -> Reply<A>
         requires { 0 < self.old.state.calls_left }
-        ensures step { Serves D.meaning self.old
+        ensures step { Calls D.meaning self.old
             (Call.CloseProtocol handle guid agent controller) result self.new }
         ensures drivers { self.new.drivers ≡ self.old.drivers }
     {
@@ -518,7 +518,7 @@ impl<D: Driver, A: Allocator + Copy> Core<D, A> {
     /// OpenProtocolInformation: the open items of an interface in a pool block, which the caller frees.
     pub fn open_protocol_information(&mut self, handle: u64, guid: Uuid) -> Reply<A>
         requires { 0 < self.old.state.calls_left }
-        ensures step { Serves D.meaning self.old
+        ensures step { Calls D.meaning self.old
             (Call.OpenProtocolInformation handle guid) result self.new }
         ensures drivers { self.new.drivers ≡ self.old.drivers }
     {
@@ -537,7 +537,7 @@ impl<D: Driver, A: Allocator + Copy> Core<D, A> {
     /// HandleProtocol: the value of the interface of a GUID on a handle.
     pub fn handle_protocol(&mut self, handle: u64, guid: Uuid) -> Reply<A>
         requires { 0 < self.old.state.calls_left }
-        ensures step { Serves D.meaning self.old
+        ensures step { Calls D.meaning self.old
             (Call.HandleProtocol handle guid) result self.new }
         ensures drivers { self.new.drivers ≡ self.old.drivers }
     {
@@ -551,7 +551,7 @@ impl<D: Driver, A: Allocator + Copy> Core<D, A> {
     /// set on the handles that this makes. The reply has the events.
     pub fn connect_controller(&mut self, handle: u64, named: &[u64], recursive: bool) -> Reply<A>
         requires { 0 < self.old.state.calls_left }
-        ensures step { Serves D.meaning self.old
+        ensures step { Calls D.meaning self.old
             (Call.ConnectController handle named.now recursive) result self.new }
         ensures drivers { self.new.drivers ≡ self.old.drivers }
     {
@@ -566,7 +566,7 @@ impl<D: Driver, A: Allocator + Copy> Core<D, A> {
     /// DisconnectController: stops the drivers that manage a handle, or one of them if `driver` is not 0.
     pub fn disconnect_controller(&mut self, handle: u64, driver: u64) -> Reply<A>
         requires { 0 < self.old.state.calls_left }
-        ensures step { Serves D.meaning self.old
+        ensures step { Calls D.meaning self.old
             (Call.DisconnectController handle driver) result self.new }
         ensures drivers { self.new.drivers ≡ self.old.drivers }
     {
@@ -582,7 +582,7 @@ impl<D: Driver, A: Allocator + Copy> Core<D, A> {
     /// of the path at an address in the pool.
     pub fn locate_device_path(&mut self, guid: Uuid, address: u64) -> Reply<A>
         requires { 0 < self.old.state.calls_left }
-        ensures step { Serves D.meaning self.old
+        ensures step { Calls D.meaning self.old
             (Call.LocateDevicePath guid address) result self.new }
         ensures drivers { self.new.drivers ≡ self.old.drivers }
     {
@@ -610,7 +610,7 @@ impl<D: Driver, A: Allocator + Copy> Core<D, A> {
     /// INVALID_PARAMETER: another key.
     pub fn exit_boot_services(&mut self, key: u64) -> Reply<A>
         requires { 0 < self.old.state.calls_left }
-        ensures step { Serves D.meaning self.old (Call.ExitBootServices key) result self.new }
+        ensures step { Calls D.meaning self.old (Call.ExitBootServices key) result self.new }
         ensures drivers { self.new.drivers ≡ self.old.drivers }
     {
         Reply::ExitBootServices(match self.begin() {
@@ -626,7 +626,7 @@ impl<D: Driver, A: Allocator + Copy> Core<D, A> {
     /// The service that a call names.
     pub fn call(&mut self, call: &Call<A>) -> Reply<A>
         requires { 0 < self.old.state.calls_left }
-        ensures step { Serves D.meaning self.old call.now result self.new }
+        ensures step { Calls D.meaning self.old call.now result self.new }
         ensures drivers { self.new.drivers ≡ self.old.drivers }
     {
         match call {
