@@ -108,11 +108,10 @@ impl<A: Allocator + Copy> EfiCore<A> {
         ensures drivers { self.new.core.drivers ≡ self.old.core.drivers }
         ensures others { self.new ≡ with_core self.old self.new.core }
     {
-        let written = self.core.pool_write(block, path);
-        if written.is_err() {
-            return Reply::PoolWrite(written);
-        }
         let pair = [(device_path_guid(), block)];
-        self.core.install_multiple(handle, &pair)
+        match self.core.pool_write(block, path) {
+            Ok(()) => self.core.install_multiple(handle, &pair),
+            Err(status) => Reply::PoolWrite(Err(status)),
+        }
     }
 }

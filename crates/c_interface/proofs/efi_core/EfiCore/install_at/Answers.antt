@@ -1,4 +1,5 @@
 use Rattle.std.proofs.Common.{rules, inr, refl, sym, ap}
+use Rattle.boot_replies.specs.declared.replies.Reply.TheVariants as reply
 use Rattle.c_interface.specs.EfiCores.{EfiCoreValue}
 use Rattle.c_interface.proofs.efi_core.EfiCore.install_at.Goals as goal
 
@@ -8,7 +9,7 @@ returns-then-ne g c =
       c.write_path-reply.result,
       c.write_path-reply.new.self.core.state,
       c.write_path-reply.ensures.run,
-      inr (search rules, refl, (c.free_pool-freed.result, rw (c.return_in_place.ensures.core, sym c.write_path-reply.ensures.drivers, sym core) c.free_pool-freed.ensures.step)),
+      inr (search rules, refl, (reply.FreePool c.free_pool-freed.result, rw (c.return_in_place.ensures.core, sym c.write_path-reply.ensures.drivers, sym core) c.free_pool-freed.ensures.step)),
       c.return_in_place.ensures.status,
       search rules,
     )

@@ -1,11 +1,11 @@
-use Rattle.std.proofs.Common.{rules, ◌≡◌, inr, sym, ap}
-use Rattle.page_ranges.specs.declared.statuses.Status.TheVariants.{Success}
+use Rattle.std.proofs.Common.{inr, refl, sym, ap, Ok}
+use Rattle.boot_replies.specs.declared.replies.Reply.{Reply}
+use Rattle.boot_replies.specs.declared.replies.Reply.TheVariants as reply
 use Rattle.c_interface.specs.EfiCores.{EfiCoreValue}
-use Rattle.c_interface.specs.Replies.{status_in}
 use Rattle.c_interface.proofs.efi_core.EfiCore.write_path.Goals as goal
 
-pub returns-clause-run : goal.returns-clause-run
-returns-clause-run g c =
-    let done : status_in c.pool_write-written.result ≡ Success = search rules in
+pub returns-in-Ok-clause-run : goal.returns-in-Ok-clause-run
+returns-in-Ok-clause-run g c =
+    let written : Reply g.row.A.Denot = reply.PoolWrite (Ok tt) in
     let core = ap (λ (x : EfiCoreValue g.row.A.Denot). x.core) c.self.view_is in
-    inr (c.pool_write-written.result, c.pool_write-written.new.self.state, search rules, done, rw (sym core, sym c.pool_write-written.ensures.drivers, sym c.device_path_guid.ensures) c.install_multiple.ensures.step)
+    inr (written, c.pool_write.new.self.state, rw (sym core) c.in-Ok.ensures.step, refl, rw (sym core, sym c.pool_write.ensures.drivers, sym c.device_path_guid.ensures) c.install_multiple.ensures.step)
