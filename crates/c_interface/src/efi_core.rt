@@ -147,9 +147,19 @@ impl<A: Allocator + Copy> EfiCore<A> {
         ensures status { result ≡ status_number (status_in reply) }
         ensures core { self.new ≡ with_reply self.old reply }
     {
-        let status = status_number_in(&reply);
+        self.return_known(status_in(&reply), reply)
+    }
+
+    /// The same, where the reply's status is known.
+    #[inline(always)]
+    pub(crate) fn return_known(&mut self, status: Status, reply: Reply<A>) -> u64
+        requires last { self.old.last ≡ None }
+        requires status { status ≡ status_in reply }
+        ensures status { result ≡ status_number (status_in reply) }
+        ensures core { self.new ≡ with_reply self.old reply }
+    {
         self.leave(reply);
-        status
+        status.number()
     }
 
     /// The same; where the reply carries a number it is put in the caller's variable.

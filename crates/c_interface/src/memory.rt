@@ -28,8 +28,13 @@ impl<A: Allocator + Copy> EfiCore<A> {
         if !self.begin() {
             return ABORTED;
         }
-        let reply = Reply::AllocatePages(self.core.allocate_pages(kind, mtype, pages, *memory));
-        self.return_number(reply, memory)
+        match self.core.allocate_pages(kind, mtype, pages, *memory) {
+            Ok(placed) => {
+                *memory = placed.address;
+                self.return_known(Status::Success, Reply::AllocatePages(Ok(placed)))
+            }
+            Err(status) => self.return_known(status, Reply::AllocatePages(Err(status))),
+        }
     }
 
     /// FreePages.
@@ -39,8 +44,10 @@ impl<A: Allocator + Copy> EfiCore<A> {
         if !self.begin() {
             return ABORTED;
         }
-        let reply = Reply::FreePages(self.core.free_pages(memory, pages));
-        self.return_status(reply)
+        match self.core.free_pages(memory, pages) {
+            Ok(()) => self.return_known(Status::Success, Reply::FreePages(Ok(()))),
+            Err(status) => self.return_known(status, Reply::FreePages(Err(status))),
+        }
     }
 
     /// GetMemoryMap. The variables receive the bytes that the map takes, its key, the bytes of a record and their
@@ -94,8 +101,10 @@ impl<A: Allocator + Copy> EfiCore<A> {
         if !self.begin() {
             return ABORTED;
         }
-        let reply = Reply::PoolWrite(self.core.pool_write(address, bytes));
-        self.return_status(reply)
+        match self.core.pool_write(address, bytes) {
+            Ok(()) => self.return_known(Status::Success, Reply::PoolWrite(Ok(()))),
+            Err(status) => self.return_known(status, Reply::PoolWrite(Err(status))),
+        }
     }
 
     /// AllocatePool. The variable `buffer` receives the block's address.
@@ -108,8 +117,14 @@ impl<A: Allocator + Copy> EfiCore<A> {
         if !self.begin() {
             return ABORTED;
         }
-        let reply = Reply::AllocatePool(self.core.allocate_pool(mtype, size));
-        self.return_number(reply, buffer)
+        match self.core.allocate_pool(mtype, size) {
+            Ok((address, certificate)) => {
+                *buffer = address;
+                let reply = Reply::AllocatePool(Ok((address, certificate)));
+                self.return_known(Status::Success, reply)
+            }
+            Err(status) => self.return_known(status, Reply::AllocatePool(Err(status))),
+        }
     }
 
     /// FreePool.
@@ -119,8 +134,10 @@ impl<A: Allocator + Copy> EfiCore<A> {
         if !self.begin() {
             return ABORTED;
         }
-        let reply = Reply::FreePool(self.core.free_pool(address));
-        self.return_status(reply)
+        match self.core.free_pool(address) {
+            Ok(()) => self.return_known(Status::Success, Reply::FreePool(Ok(()))),
+            Err(status) => self.return_known(status, Reply::FreePool(Err(status))),
+        }
     }
 
     /// ExitBootServices.

@@ -1,4 +1,4 @@
-use Rattle.std.proofs.Common.{rules, sym, ap, ◌∙◌, inl}
+use Rattle.std.proofs.Common.{rules, sym, ap, ◌∙◌, inl, Ok, Err}
 use Rattle.boot_calls.specs.declared.calls.Call.{Call}
 use Rattle.boot_calls.specs.declared.calls.Call.TheVariants as call
 use Rattle.boot_replies.specs.declared.replies.Reply.{Reply}
@@ -8,13 +8,24 @@ use Rattle.c_interface.specs.EfiCores.{EfiCoreValue, meanings}
 use Rattle.c_interface.specs.Served.{Serves}
 use Rattle.c_interface.proofs.efi_core.EfiCore.pool_write.Goals as goal
 
-pub returns : goal.returns
-returns g c =
+pub returns-in-Ok : goal.returns-in-Ok
+returns-in-Ok g c =
     let asked : Call g.row.A.Denot = call.PoolWrite c.args.address c.args.bytes.now in
-    let answer : Reply g.row.A.Denot = reply.PoolWrite c.pool_write.result in
+    let answer : Reply g.row.A.Denot = reply.PoolWrite (Ok tt) in
     let core = ap (λ (x : EfiCoreValue g.row.A.Denot). x.core) (c.self.view_is ∙ c.begin.ensures.core) in
-    let step : Step (meanings c.args.self.now) c.args.self.now.core.state asked answer c.return_status.new.self.core.state =
-    rw (c.return_status.ensures.core, sym core) c.pool_write.ensures.step in
-    let served : Serves c.args.self.now asked answer c.return_status.new.self =
+    let step : Step (meanings c.args.self.now) c.args.self.now.core.state asked answer c.return_known.new.self.core.state =
+    rw (c.return_known.ensures.core, sym core) c.in-Ok.ensures.step in
+    let served : Serves c.args.self.now asked answer c.return_known.new.self =
     record { step = step; drivers = search rules; certifies = search rules; block = search rules; last = search rules } in
-    inl (answer, served, c.return_status.ensures.status, tt)
+    inl (answer, served, c.return_known.ensures.status, tt)
+
+pub returns-in-Err : goal.returns-in-Err
+returns-in-Err g c =
+    let asked : Call g.row.A.Denot = call.PoolWrite c.args.address c.args.bytes.now in
+    let answer : Reply g.row.A.Denot = reply.PoolWrite (Err c.in-Err.status) in
+    let core = ap (λ (x : EfiCoreValue g.row.A.Denot). x.core) (c.self.view_is ∙ c.begin.ensures.core) in
+    let step : Step (meanings c.args.self.now) c.args.self.now.core.state asked answer c.return_known-in-Err.new.self.core.state =
+    rw (c.return_known-in-Err.ensures.core, sym core) c.in-Err.ensures.step in
+    let served : Serves c.args.self.now asked answer c.return_known-in-Err.new.self =
+    record { step = step; drivers = search rules; certifies = search rules; block = search rules; last = search rules } in
+    inl (answer, served, c.return_known-in-Err.ensures.status, tt)
