@@ -31,6 +31,9 @@ const MAX_CALLS: u64 = 0x8000_0000;
 /// The most calls that a core can be left.
 const MOST_CALLS: u64 = 0x3fff_ffff_ffff_ffff;
 
+/// For how many placements a core on a heap has memory reserved ahead before its first call.
+pub const PREPARED_PLACEMENTS: usize = 64;
+
 /// The boot services of a machine, with its drivers.
 #[derive(Drop)]
 pub struct Core<D = Box<dyn Driver>, A: Allocator = Global> {

@@ -14,7 +14,7 @@ mod turns;
 pub use boot_calls::{Call, CallBytes, CallHandles, CallPairs};
 pub use boot_machines::Machine;
 pub use boot_replies::{PoolList, Reply, certified, may_be_certified};
-pub use core_state::Core;
+pub use core_state::{Core, PREPARED_PLACEMENTS};
 pub use driver_connect::{Agent, DriverTurns};
 pub use guid_handles::Interface;
 pub use kept_maps::map_before;

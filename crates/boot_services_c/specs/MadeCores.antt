@@ -1,5 +1,6 @@
 -- What is made of records and tables, as a variable of the caller's has it.
 use Rattle.std.specs.Prelude.{◌≡◌, ℕ, List, Result, Ok, Err, MatchOption, MatchResult}
+use Rattle.boot_core.specs.Machines.{prepared_placements}
 use Rattle.c_machines.specs.declared.drivers.DriverTable.{DriverTable}
 use Rattle.c_interface.specs.EfiCores.{EfiCoreValue, preparing_core}
 use Rattle.c_interface.specs.Making.{MakesCore}
@@ -7,12 +8,8 @@ use Rattle.boot_services_c.specs.Cores.{CoreHeap}
 use Rattle.boot_services_c.specs.Places.{Held}
 use Rattle.boot_services_c.specs.declared.place.Place.{Place}
 
--- for how many placements a core has memory reserved ahead once it is made
-abbrev pub prepared_placements : ℕ
-prepared_placements = 64
-
--- The core is the one that the records and tables describe, with memory reserved ahead for that many
--- placements.
+-- The core is the one that the records and tables describe, with memory reserved ahead for its
+-- first placements.
 abbrev pub IsPreparedCore : ℕ → List ℕ → ℕ → List DriverTable → EfiCoreValue CoreHeap → Type 0
 IsPreparedCore size records granule tables core =
     (made : EfiCoreValue CoreHeap) × MakesCore size records granule tables (Ok made)

@@ -1,22 +1,21 @@
 //! Making and freeing cores.
 ghost use Rattle.std.specs.Prelude.{◌≡◌, ◌<◌, IfSome, MatchOption};
 ghost use Rattle.std.specs.Borrow.{sem};
+ghost use Rattle.boot_core.specs.Machines.{prepared_placements};
 ghost use Rattle.c_interface.specs.EfiCores.{preparing_core};
-ghost use Rattle.boot_services_c.specs.MadeCores.{Holds, MakesPlace, Refuses, prepared_placements};
+ghost use Rattle.boot_services_c.specs.MadeCores.{Holds, MakesPlace, Refuses};
 ghost use Rattle.boot_services_c.specs.Places.{freed_at};
 
 use crate::blocks::Block;
 use crate::handle::Rafkudin;
 use crate::place::Place;
+use boot_core::PREPARED_PLACEMENTS;
 use c_interface::EfiCore;
 use c_machines::{DriverTable, are_tables};
 use page_ranges::Status;
 use pool_services::PoolMemory;
 use raw_pool::{PageHeap, PageRun};
 use std::alloc::Global;
-
-/// How many placements of pages take no memory once a core is made.
-const PREPARED_PLACEMENTS: usize = 64;
 
 /// Makes a core of EFI_MEMORY_DESCRIPTORs, a granule of 1 or 16 pages and up to 64 drivers, and puts its
 /// pointer into the variable `core`, which a refusal leaves as it is. The core has memory reserved ahead for 64

@@ -7,10 +7,10 @@ use Rattle.machine_files.specs.declared.faults.MachineFault.TheVariants as machi
 use Rattle.machine_files.specs.DriverText.{listed, listed_meaning}
 use Rattle.machine_files.specs.MachineText.{ListedMachine, longest_file, root_of, machine_of}
 use Rattle.std.specs.declared.alloc.Global.{Global}
-use Rattle.boot_core.specs.Machines.{State, prepared_state}
+use Rattle.boot_core.specs.Machines.{State, prepared_placements, prepared_state}
 use Rattle.trace_lines.specs.declared.run_faults.RunFault.{RunFault}
 use Rattle.boot_trace.specs.TraceRuns.{Ends}
-use Rattle.program_runs.specs.Serving.{IsRead, RunsTrace, prepared_placements}
+use Rattle.program_runs.specs.Serving.{IsRead, RunsTrace}
 
 -- a file that is too long is none of a machine
 too_long : (bytes : List ℕ) → longest_file < length bytes → machine_of bytes ≡ Err machine_fault.TooLong

@@ -5,7 +5,7 @@ use Rattle.std.specs.declared.alloc.Global.{Global}
 use Rattle.certificate_blocks.specs.declared.faults.BlockFault.{BlockFault}
 use Rattle.certificate_blocks.specs.BlockChecks.{Judges, Writes}
 use Rattle.text_lines.specs.Printed.{WritesFront, line_feed}
-use Rattle.boot_core.specs.Machines.{State, prepared_state}
+use Rattle.boot_core.specs.Machines.{State, prepared_placements, prepared_state}
 use Rattle.machine_files.specs.declared.faults.MachineFault.TheVariants as machine_fault
 use Rattle.trace_lines.specs.declared.run_faults.RunFault.{RunFault}
 use Rattle.machine_files.specs.DriverText.{listed_meaning}
@@ -18,10 +18,6 @@ use Rattle.program_runs.specs.declared.serve.Fault.TheVariants as fault
 abbrev pub IsRead : List ℕ → List ℕ → Type 0
 IsRead file bytes =
     (rest : List ℕ) × (file ≡ bytes ++ rest) × ((rest ≡ []) ⊎ (longest_file < length bytes))
-
--- for how many placements memory is reserved ahead before the first call
-abbrev pub prepared_placements : ℕ
-prepared_placements = 128
 
 -- The file is a machine's, and the run of a trace of known bytes on that machine, with its drivers,
 -- ends so. The core returns certificates where they are asked for.

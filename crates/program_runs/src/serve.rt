@@ -3,7 +3,7 @@ ghost use Rattle.std.specs.Prelude.{◌≡◌, ◌⊎◌, IfOk, IfErr, IfSome};
 ghost use Rattle.program_runs.specs.Serving.{ChecksBlock, IsRead, PrintsVersion, RunsFiles, ServesFiles, fault_status, status_of, usage_status};
 ghost use Rattle.text_lines.specs.Printed.{WritesFront};
 
-use boot_core::Core;
+use boot_core::{Core, PREPARED_PLACEMENTS};
 use boot_trace::{MachineFault, RunFault, read_machine};
 use certificate_blocks::{BlockFault, check_block};
 use command_line::VERSION;
@@ -24,9 +24,6 @@ pub const USAGE: u8 = 2;
 
 /// The status of a block that is refused.
 pub const REFUSED: u8 = 3;
-
-/// For how many placements a run reserves memory before its first call.
-const PREPARED_PLACEMENTS: usize = 128;
 
 /// How many bytes are asked of the machine file at a time.
 const PIECE: usize = 8192;

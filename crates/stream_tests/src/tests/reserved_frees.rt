@@ -28,8 +28,8 @@ fn place(
     pages: u64,
 ) -> Result<u64, Status> {
     assert!(rt; core.calls_left() > 0);
-    core.allocate_pages(0, mtype, pages, 0)
-        .map(|placed| placed.address)
+    let placed = core.allocate_pages(0, mtype, pages, 0)?;
+    Ok(placed.address)
 }
 
 /// Takes a block of the pool, and returns its address.
@@ -40,7 +40,8 @@ fn take_block(
     size: u64,
 ) -> Result<u64, Status> {
     assert!(rt; core.calls_left() > 0);
-    core.allocate_pool(mtype, size).map(|taken| taken.0)
+    let (address, _certificate) = core.allocate_pool(mtype, size)?;
+    Ok(address)
 }
 
 /// Frees pages, or a block.

@@ -1,7 +1,6 @@
 use Rattle.std.proofs.Common.{Ok, Err, refl, ap, ◌∙◌}
 use Rattle.driver_connect.specs.declared.table.TableDriver.{TableDriver}
-use Rattle.boot_core.specs.Machines.{CoreValue, certifying_state, preparing_state}
-use Rattle.program_runs.specs.Serving.{prepared_placements}
+use Rattle.boot_core.specs.Machines.{CoreValue, certifying_state, prepared_placements, preparing_state}
 use Rattle.program_runs.proofs.Served.{runs_file, faults_file, same_meanings}
 use Rattle.program_runs.proofs.serve.run_files.Goals as goal
 
