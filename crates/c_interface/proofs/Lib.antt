@@ -10,6 +10,7 @@ mod Opened
 mod ReturnedLists
 mod TracedCalls
 pub mod InstalledPaths
+pub mod LeftReplies
 pub mod LocatedHere
 mod PrintedReplies
 pub mod FilledStops

@@ -1,31 +1,15 @@
-use Rattle.std.proofs.Common.{rules, sym, ap, ◌∙◌, inl, Ok, Err}
-use Rattle.boot_calls.specs.declared.calls.Call.{Call}
+use Rattle.std.proofs.Common.{rules, ◌∙◌, inl, Ok, Err}
 use Rattle.boot_calls.specs.declared.calls.Call.TheVariants as call
-use Rattle.boot_replies.specs.declared.replies.Reply.{Reply}
 use Rattle.boot_replies.specs.declared.replies.Reply.TheVariants as reply
-use Rattle.boot_core.specs.Steps.{Step}
-use Rattle.c_interface.specs.EfiCores.{EfiCoreValue, meanings}
-use Rattle.c_interface.specs.Served.{Serves}
+use Rattle.c_interface.proofs.LeftReplies.{reply_left}
 use Rattle.c_interface.proofs.efi_core.EfiCore.pool_write.Goals as goal
 
 pub returns-in-Ok : goal.returns-in-Ok
 returns-in-Ok g c =
-    let asked : Call g.row.A.Denot = call.PoolWrite c.args.address c.args.bytes.now in
-    let answer : Reply g.row.A.Denot = reply.PoolWrite (Ok tt) in
-    let core = ap (λ (x : EfiCoreValue g.row.A.Denot). x.core) (c.self.view_is ∙ c.begin.ensures.core) in
-    let step : Step (meanings c.args.self.now) c.args.self.now.core.state asked answer c.return_known.new.self.core.state =
-    rw (c.return_known.ensures.core, sym core) c.in-Ok.ensures.step in
-    let served : Serves c.args.self.now asked answer c.return_known.new.self =
-    record { step = step; drivers = search rules; certifies = search rules; block = search rules; last = search rules } in
-    inl (answer, served, c.return_known.ensures.status, tt)
+    let served = reply_left c.args.self.now _ c.return_known.new.self c.pool_write.new.self (call.PoolWrite c.args.address c.args.bytes.now) (reply.PoolWrite (Ok tt)) (c.self.view_is ∙ c.begin.ensures.core) (search rules) c.in-Ok.ensures.step c.in-Ok.ensures.drivers c.return_known.ensures.core in
+    inl (reply.PoolWrite (Ok tt), served, c.return_known.ensures.status, tt)
 
 pub returns-in-Err : goal.returns-in-Err
 returns-in-Err g c =
-    let asked : Call g.row.A.Denot = call.PoolWrite c.args.address c.args.bytes.now in
-    let answer : Reply g.row.A.Denot = reply.PoolWrite (Err c.in-Err.status) in
-    let core = ap (λ (x : EfiCoreValue g.row.A.Denot). x.core) (c.self.view_is ∙ c.begin.ensures.core) in
-    let step : Step (meanings c.args.self.now) c.args.self.now.core.state asked answer c.return_known-in-Err.new.self.core.state =
-    rw (c.return_known-in-Err.ensures.core, sym core) c.in-Err.ensures.step in
-    let served : Serves c.args.self.now asked answer c.return_known-in-Err.new.self =
-    record { step = step; drivers = search rules; certifies = search rules; block = search rules; last = search rules } in
-    inl (answer, served, c.return_known-in-Err.ensures.status, tt)
+    let served = reply_left c.args.self.now _ c.return_known-in-Err.new.self c.pool_write.new.self (call.PoolWrite c.args.address c.args.bytes.now) (reply.PoolWrite (Err c.in-Err.status)) (c.self.view_is ∙ c.begin.ensures.core) (search rules) c.in-Err.ensures.step c.in-Err.ensures.drivers c.return_known-in-Err.ensures.core in
+    inl (reply.PoolWrite (Err c.in-Err.status), served, c.return_known-in-Err.ensures.status, tt)
