@@ -36,7 +36,7 @@ use Rattle.boot_replies.specs.declared.replies.Reply.{Reply}
 use Rattle.boot_replies.specs.declared.replies.Reply.TheVariants as reply
 use Rattle.boot_machines.specs.MachineRuns.{HasRecordNumbers}
 use Rattle.boot_machines.specs.Machines.{IsMachine, MachineValue}
-use Rattle.boot_core.specs.Machines.{Parts, State, AreSound, first_state_with}
+use Rattle.boot_core.specs.Machines.{Parts, State, AreSound, prepared_state}
 use Rattle.boot_replies.specs.Certified.{certificate_in, left_request}
 use Rattle.boot_core.specs.PoolLists.{LocatesBuffer, ListsOpens, PutsItems}
 use Rattle.boot_replies.specs.Certified.{list_type}
@@ -45,7 +45,7 @@ use Rattle.boot_core.specs.Laws.{IsAcceptedReply, AllAccepted}
 use Rattle.boot_calls.specs.CallNumbers.{NamesTypes}
 use Rattle.boot_core.proofs.Outcomes.{stays_typed, stays_fitting, outcome, proper_request}
 use Rattle.boot_core.proofs.RecordPages.{HaveFields, first_fields, record_entries}
-use Rattle.boot_core.proofs.Soundness.{first_sound, stays_sound}
+use Rattle.boot_core.proofs.Soundness.{prepared_sound, stays_sound}
 
 -- the pages of a machine have types of machines
 pub first_types : (rs : List Run) → AllByRecursion (λ r. is_machine_type r.mtype ≡ true) rs → HasMachineTypes (pages_of rs)
@@ -175,8 +175,8 @@ all_accepted ds old [] [] new run sound typed = tt
 all_accepted ds old [] (r ∷ replies) new run sound typed = tt
 all_accepted ds old (c ∷ calls) [] new run sound typed = tt
 
-pub accepted_run : {A : Type 0} (ds : List Meaning) (certifies : Bool) (machine : MachineValue) (calls : List (Call A)) (replies : List (Reply A)) (new : State) (run : CallRun ds (first_state_with certifies machine) calls replies new) → IsMachine machine → AllAccepted ds (first_state_with certifies machine) calls replies new run
-accepted_run ds certifies machine calls replies new run valid = all_accepted ds (first_state_with certifies machine) calls replies new run (first_sound certifies machine valid) (first_types machine.runs valid.runs.mtypes)
+pub accepted_run : {A : Type 0} (ds : List Meaning) (placements : ℕ) (certifies : Bool) (machine : MachineValue) (calls : List (Call A)) (replies : List (Reply A)) (new : State) (run : CallRun ds (prepared_state placements certifies machine) calls replies new) → IsMachine machine → AllAccepted ds (prepared_state placements certifies machine) calls replies new run
+accepted_run ds placements certifies machine calls replies new run valid = all_accepted ds (prepared_state placements certifies machine) calls replies new run (prepared_sound placements certifies machine valid) (first_types machine.runs valid.runs.mtypes)
 
 -- ---- records
 
@@ -189,5 +189,5 @@ entries_after ds old (c ∷ calls) (r ∷ replies) new (next, step, run) sound f
 entries_after ds old [] (r ∷ replies) new run sound fields names = absurd run
 entries_after ds old (c ∷ calls) [] new run sound fields names = absurd run
 
-pub entries_of_run : {A : Type 0} (ds : List Meaning) (certifies : Bool) (machine : MachineValue) (calls : List (Call A)) (replies : List (Reply A)) (new : State) → IsMachine machine → AllByRecursion HasRecordNumbers machine.runs → AllByRecursion NamesTypes calls → CallRun ds (first_state_with certifies machine) calls replies new → AllByRecursion IsRecordEntry (memory_map new.parts.book.memory)
-entries_of_run ds certifies machine calls replies new valid numbers names run = entries_after ds (first_state_with certifies machine) calls replies new run (first_sound certifies machine valid) (first_fields machine.runs numbers) names
+pub entries_of_run : {A : Type 0} (ds : List Meaning) (placements : ℕ) (certifies : Bool) (machine : MachineValue) (calls : List (Call A)) (replies : List (Reply A)) (new : State) → IsMachine machine → AllByRecursion HasRecordNumbers machine.runs → AllByRecursion NamesTypes calls → CallRun ds (prepared_state placements certifies machine) calls replies new → AllByRecursion IsRecordEntry (memory_map new.parts.book.memory)
+entries_of_run ds placements certifies machine calls replies new valid numbers names run = entries_after ds (prepared_state placements certifies machine) calls replies new run (prepared_sound placements certifies machine valid) (first_fields machine.runs numbers) names

@@ -28,13 +28,13 @@ use Rattle.boot_replies.specs.declared.replies.Reply.{Reply}
 use Rattle.boot_replies.specs.declared.replies.Reply.TheVariants as reply
 use Rattle.boot_replies.specs.Certified.{certificate_in, left_request, list_request, list_type}
 use Rattle.boot_machines.specs.Machines.{IsMachine, MachineValue}
-use Rattle.boot_core.specs.Machines.{Parts, State, first_state_with, AreSound}
+use Rattle.boot_core.specs.Machines.{Parts, State, prepared_state, AreSound}
 use Rattle.boot_core.specs.PoolLists.{LocatesBuffer, ListsOpens, PutsItems}
 use Rattle.boot_core.specs.Steps.{best_starts, Answers, CallRun, Serves}
 use Rattle.boot_core.specs.Laws.{HasNewExtent, PlacesByChoice, AllCertifyChoices}
 use Rattle.boot_calls.specs.CallNumbers.{NamesTypes}
 use Rattle.boot_core.proofs.Outcomes.{outcome, stays_certifying}
-use Rattle.boot_core.proofs.Soundness.{first_sound, stays_sound}
+use Rattle.boot_core.proofs.Soundness.{prepared_sound, stays_sound}
 
 -- ---- what is shown of each call
 
@@ -228,6 +228,6 @@ all_certify certifies ds old [] [] new run sound same = tt
 all_certify certifies ds old [] (r ∷ replies) new run sound same = tt
 all_certify certifies ds old (c ∷ calls) [] new run sound same = tt
 
-pub certified_choices : {A : Type 0} (ds : List Meaning) (certifies : Bool) (machine : MachineValue) (calls : List (Call A)) (replies : List (Reply A)) (new : State) (run : CallRun ds (first_state_with certifies machine) calls replies new) → IsMachine machine →
-    AllCertifyChoices certifies ds (first_state_with certifies machine) calls replies new run
-certified_choices ds certifies machine calls replies new run valid = all_certify certifies ds (first_state_with certifies machine) calls replies new run (first_sound certifies machine valid) refl
+pub certified_choices : {A : Type 0} (ds : List Meaning) (placements : ℕ) (certifies : Bool) (machine : MachineValue) (calls : List (Call A)) (replies : List (Reply A)) (new : State) (run : CallRun ds (prepared_state placements certifies machine) calls replies new) → IsMachine machine →
+    AllCertifyChoices certifies ds (prepared_state placements certifies machine) calls replies new run
+certified_choices ds placements certifies machine calls replies new run valid = all_certify certifies ds (prepared_state placements certifies machine) calls replies new run (prepared_sound placements certifies machine valid) refl

@@ -17,7 +17,7 @@ use Rattle.boot_calls.specs.declared.calls.Call.TheVariants as call
 use Rattle.boot_replies.specs.declared.replies.PoolList.{PoolList}
 use Rattle.boot_replies.specs.declared.replies.Reply.{Reply}
 use Rattle.boot_machines.specs.Machines.{MachineValue}
-use Rattle.boot_core.specs.Machines.{Parts, State, all_calls, first_state_with}
+use Rattle.boot_core.specs.Machines.{Parts, State, all_calls, prepared_state}
 use Rattle.boot_core.specs.PoolLists.{ListsOpens, LocatesBuffer, PutsItems}
 use Rattle.boot_core.specs.Steps.{Setting, WhileOpen, Serves, Answers, CallRunBy}
 
@@ -93,8 +93,8 @@ run_counts S old [] (r ∷ replies) new n s run = absurd run
 run_counts S old (c ∷ calls) [] new n s run = absurd run
 
 -- no item's count is above the number of calls, so within those that a machine serves each rises by 1
-pub counts_after : {A : Type 0} (S : Setting) (certifies : Bool) (machine : MachineValue) (calls : List (Call A)) (replies : List (Reply A)) (new : State) → CallRunBy S (first_state_with certifies machine) calls replies new
+pub counts_after : {A : Type 0} (S : Setting) (placements : ℕ) (certifies : Bool) (machine : MachineValue) (calls : List (Call A)) (replies : List (Reply A)) (new : State) → CallRunBy S (prepared_state placements certifies machine) calls replies new
     → AllByRecursion (λ o. (o.count ≤ length calls) × (length calls ≤ all_calls → once_more o.count ≡ o.count + 1)) new.parts.lists.opens
-counts_after S certifies machine calls replies new run =
-    let bound : CountUpTo (length calls + 0) new.parts.lists.opens = run_counts S (first_state_with certifies machine) calls replies new 0 tt run in
+counts_after S placements certifies machine calls replies new run =
+    let bound : CountUpTo (length calls + 0) new.parts.lists.opens = run_counts S (prepared_state placements certifies machine) calls replies new 0 tt run in
     all_map (λ (o : OpenRecord). o.count ≤ length calls + 0) (λ (o : OpenRecord). (o.count ≤ length calls) × (length calls ≤ all_calls → once_more o.count ≡ o.count + 1)) (λ o l. (omega (arith, l), λ few. omega (arith, l, few))) new.parts.lists.opens bound

@@ -15,7 +15,7 @@ use Rattle.boot_calls.specs.declared.calls.Call.TheVariants as call
 use Rattle.boot_replies.specs.declared.replies.PoolList.{PoolList}
 use Rattle.boot_replies.specs.declared.replies.Reply.{Reply}
 use Rattle.boot_machines.specs.Machines.{MachineValue}
-use Rattle.boot_core.specs.Machines.{Parts, State, first_state_with}
+use Rattle.boot_core.specs.Machines.{Parts, State, prepared_state}
 use Rattle.boot_core.specs.PoolLists.{ListsOpens, LocatesBuffer, PutsItems}
 use Rattle.boot_core.specs.Steps.{Setting, WhileOpen, Serves, Answers, CallRunBy}
 
@@ -95,5 +95,5 @@ run_proper S old (c ∷ calls) [] new s run = absurd run
 first_proper : AreProperLists no_lists
 first_proper = record { table = record { ascending = tt; given = tt; limit = omega arith; on_live = tt }; guids = tt; names = tt; holders = tt }
 
-pub proper_after : {A : Type 0} (S : Setting) (certifies : Bool) (machine : MachineValue) (calls : List (Call A)) (replies : List (Reply A)) (new : State) → CallRunBy S (first_state_with certifies machine) calls replies new → AreProperLists new.parts.lists
-proper_after S certifies machine calls replies new run = run_proper S (first_state_with certifies machine) calls replies new first_proper run
+pub proper_after : {A : Type 0} (S : Setting) (placements : ℕ) (certifies : Bool) (machine : MachineValue) (calls : List (Call A)) (replies : List (Reply A)) (new : State) → CallRunBy S (prepared_state placements certifies machine) calls replies new → AreProperLists new.parts.lists
+proper_after S placements certifies machine calls replies new run = run_proper S (prepared_state placements certifies machine) calls replies new first_proper run

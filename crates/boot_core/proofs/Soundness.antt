@@ -152,5 +152,5 @@ prepared_sound placements certifies machine valid =
     let first = first_sound certifies machine valid in
     record { proper = first.proper; granules = record { granule = first.granules.granule; whole = first.granules.whole }; extents = first.extents; owned = first.owned; reserved = first.reserved }
 
-pub sound_after : {A : Type 0} (S : Setting) → Permits S.chosen → (certifies : Bool) (machine : MachineValue) (calls : List (Call A)) (replies : List (Reply A)) (new : State) → IsMachine machine → CallRunBy S (first_state_with certifies machine) calls replies new → AreSound new.parts
-sound_after S permits certifies machine calls replies new valid run = run_sound S permits (first_state_with certifies machine) calls replies new (first_sound certifies machine valid) run
+pub sound_after : {A : Type 0} (S : Setting) → Permits S.chosen → (placements : ℕ) (certifies : Bool) (machine : MachineValue) (calls : List (Call A)) (replies : List (Reply A)) (new : State) → IsMachine machine → CallRunBy S (prepared_state placements certifies machine) calls replies new → AreSound new.parts
+sound_after S permits placements certifies machine calls replies new valid run = run_sound S permits (prepared_state placements certifies machine) calls replies new (prepared_sound placements certifies machine valid) run

@@ -24,7 +24,7 @@ use Rattle.boot_replies.specs.declared.replies.Reply.TheVariants as reply
 use Rattle.boot_calls.specs.CallNumbers.{NamesTypes}
 use Rattle.boot_machines.specs.MachineRuns.{HasRecordNumbers}
 use Rattle.boot_machines.specs.Machines.{IsMachine, MachineValue}
-use Rattle.boot_core.specs.Machines.{Parts, State, AreSound, all_calls, first_state_with}
+use Rattle.boot_core.specs.Machines.{Parts, State, AreSound, all_calls, prepared_state}
 use Rattle.boot_replies.specs.Certified.{certificate_in, certified}
 use Rattle.boot_core.specs.Steps.{Setting, any_starts, MapStep, ReadStep, Step, StepAny, StepBy, CallRun, CallRunBy}
 
@@ -42,30 +42,32 @@ AnyRunLaw A =
     → CallRun ds old calls replies new → CallRunBy (any_starts ds) old calls replies new
 
 -- The parts are sound after calls on a valid machine, however starts are chosen among the permitted
--- ones.
+-- ones. Before the first call, here as in the laws below, memory may be reserved ahead for any number
+-- of placements.
 abbrev pub SoundLaw : Setting → Type 0 → Type 0
 SoundLaw S A =
-    (certifies : Bool) (machine : MachineValue) (calls : List (Call A)) (replies : List (Reply A))
-    (new : State)
-    → IsMachine machine → CallRunBy S (first_state_with certifies machine) calls replies new
+    (placements : ℕ) (certifies : Bool) (machine : MachineValue) (calls : List (Call A))
+    (replies : List (Reply A)) (new : State)
+    → IsMachine machine
+    → CallRunBy S (prepared_state placements certifies machine) calls replies new
     → AreSound new.parts
 
 -- The lists of the protocol services are proper after any calls, however starts are chosen and
 -- whatever the drivers answer.
 abbrev pub ProperListsLaw : Setting → Type 0 → Type 0
 ProperListsLaw S A =
-    (certifies : Bool) (machine : MachineValue) (calls : List (Call A)) (replies : List (Reply A))
-    (new : State)
-    → CallRunBy S (first_state_with certifies machine) calls replies new
+    (placements : ℕ) (certifies : Bool) (machine : MachineValue) (calls : List (Call A))
+    (replies : List (Reply A)) (new : State)
+    → CallRunBy S (prepared_state placements certifies machine) calls replies new
     → AreProperLists new.parts.lists
 
 -- After calls no open item's count is above their number. So where they are no more than a machine
 -- serves, no count has come to its end, and each rises by exactly 1 where its item is opened again.
 abbrev pub CountLaw : Setting → Type 0 → Type 0
 CountLaw S A =
-    (certifies : Bool) (machine : MachineValue) (calls : List (Call A)) (replies : List (Reply A))
-    (new : State)
-    → CallRunBy S (first_state_with certifies machine) calls replies new →
+    (placements : ℕ) (certifies : Bool) (machine : MachineValue) (calls : List (Call A))
+    (replies : List (Reply A)) (new : State)
+    → CallRunBy S (prepared_state placements certifies machine) calls replies new →
     AllByRecursion (λ o. (o.count ≤ length calls)
     × (length calls ≤ all_calls → once_more o.count ≡ o.count + 1)) new.parts.lists.opens
 
@@ -169,20 +171,21 @@ ReadStepLaw A =
 -- one that a record can spell.
 abbrev pub RecordEntriesLaw : Type 0 → Type 0
 RecordEntriesLaw A =
-    (ds : List Meaning) (certifies : Bool) (machine : MachineValue) (calls : List (Call A))
-    (replies : List (Reply A)) (new : State)
+    (ds : List Meaning) (placements : ℕ) (certifies : Bool) (machine : MachineValue)
+    (calls : List (Call A)) (replies : List (Reply A)) (new : State)
     → IsMachine machine → AllByRecursion HasRecordNumbers machine.runs
     → AllByRecursion NamesTypes calls →
-    CallRun ds (first_state_with certifies machine) calls replies new
+    CallRun ds (prepared_state placements certifies machine) calls replies new
     → AllByRecursion IsRecordEntry (memory_map new.parts.book.memory)
 
 -- After calls on a valid machine the memory map has an entry for each run of the machine and two
 -- for each call, or fewer.
 abbrev pub MapGrowthLaw : Setting → Type 0 → Type 0
 MapGrowthLaw S A =
-    (certifies : Bool) (machine : MachineValue) (calls : List (Call A)) (replies : List (Reply A))
-    (new : State)
-    → IsMachine machine → CallRunBy S (first_state_with certifies machine) calls replies new →
+    (placements : ℕ) (certifies : Bool) (machine : MachineValue) (calls : List (Call A))
+    (replies : List (Reply A)) (new : State)
+    → IsMachine machine
+    → CallRunBy S (prepared_state placements certifies machine) calls replies new →
     length (memory_map new.parts.book.memory) ≤ length machine.runs + 2 * length calls
 
 -- ---- memory to free pages
@@ -315,10 +318,11 @@ AllAccepted ds old calls replies new run = Unit {0}
 -- On a valid machine the checker accepts each certificate of a run.
 abbrev pub AcceptanceLaw : Type 0 → Type 0
 AcceptanceLaw A =
-    (ds : List Meaning) (certifies : Bool) (machine : MachineValue) (calls : List (Call A))
-    (replies : List (Reply A)) (new : State)
-    (run : CallRun ds (first_state_with certifies machine) calls replies new)
-    → IsMachine machine → AllAccepted ds (first_state_with certifies machine) calls replies new run
+    (ds : List Meaning) (placements : ℕ) (certifies : Bool) (machine : MachineValue)
+    (calls : List (Call A)) (replies : List (Reply A)) (new : State)
+    (run : CallRun ds (prepared_state placements certifies machine) calls replies new)
+    → IsMachine machine
+    → AllAccepted ds (prepared_state placements certifies machine) calls replies new run
 
 -- the pool has one extent more
 abbrev pub HasNewExtent : Parts → Parts → Type 0
@@ -357,7 +361,9 @@ AllCertifyChoices certifies ds old calls replies new run = Unit {0}
 -- one.
 abbrev pub CertificateLaw : Type 0 → Type 0
 CertificateLaw A =
-    (ds : List Meaning) (certifies : Bool) (machine : MachineValue) (calls : List (Call A))
-    (replies : List (Reply A)) (new : State)
-    (run : CallRun ds (first_state_with certifies machine) calls replies new) → IsMachine machine →
-    AllCertifyChoices certifies ds (first_state_with certifies machine) calls replies new run
+    (ds : List Meaning) (placements : ℕ) (certifies : Bool) (machine : MachineValue)
+    (calls : List (Call A)) (replies : List (Reply A)) (new : State)
+    (run : CallRun ds (prepared_state placements certifies machine) calls replies new)
+    → IsMachine machine →
+    AllCertifyChoices certifies ds
+    (prepared_state placements certifies machine) calls replies new run

@@ -3,7 +3,7 @@ use Rattle.boot_core.proofs.CountRuns.{counts_after}
 use Rattle.boot_core.proofs.laws.count_law.Goals as goal
 
 pub returns-clause-best : goal.returns-clause-best
-returns-clause-best g c = λ ds certifies machine calls replies new run. counts_after (best_starts ds) certifies machine calls replies new run
+returns-clause-best g c = λ ds placements certifies machine calls replies new run. counts_after (best_starts ds) placements certifies machine calls replies new run
 
 pub returns-clause-any : goal.returns-clause-any
-returns-clause-any g c = λ ds certifies machine calls replies new run. counts_after (any_starts ds) certifies machine calls replies new run
+returns-clause-any g c = λ ds placements certifies machine calls replies new run. counts_after (any_starts ds) placements certifies machine calls replies new run

@@ -4,7 +4,7 @@ use Rattle.boot_core.proofs.Soundness.{sound_after}
 use Rattle.boot_core.proofs.laws.sound_law.Goals as goal
 
 pub returns-clause-best : goal.returns-clause-best
-returns-clause-best g c = λ ds certifies machine calls replies new valid run. sound_after (best_starts ds) best_is_permitted certifies machine calls replies new valid run
+returns-clause-best g c = λ ds placements certifies machine calls replies new valid run. sound_after (best_starts ds) best_is_permitted placements certifies machine calls replies new valid run
 
 pub returns-clause-any : goal.returns-clause-any
-returns-clause-any g c = λ ds certifies machine calls replies new valid run. sound_after (any_starts ds) (λ b r p returned h. h) certifies machine calls replies new valid run
+returns-clause-any g c = λ ds placements certifies machine calls replies new valid run. sound_after (any_starts ds) (λ b r p returned h. h) placements certifies machine calls replies new valid run
