@@ -78,14 +78,14 @@ preparing_state placements s = with_book (preparing placements s.parts.book) s
 abbrev pub first_state_with : Bool → MachineValue → State
 first_state_with certifies machine = certifying_state certifies (first_state machine)
 
--- for how many placements a core on a heap has memory reserved ahead before its first call
-abbrev pub prepared_placements : ℕ
-prepared_placements = 64
-
 -- the same, with memory reserved ahead for a number of placements
 abbrev pub prepared_state : ℕ → Bool → MachineValue → State
 prepared_state placements certifies machine =
     preparing_state placements (first_state_with certifies machine)
+
+-- for how many placements a core on a heap has memory reserved ahead before its first call
+abbrev pub prepared_placements : ℕ
+prepared_placements = 64
 
 -- a state with another number of calls left
 abbrev pub leaving : ℕ → State → State

@@ -209,7 +209,7 @@ Step ds old c answer new = StepBy (best_starts ds) old c answer new
 abbrev pub StepAny : {A : Type 0} → List Meaning → State → Call A → Reply A → State → Type 0
 StepAny ds old c answer new = StepBy (any_starts ds) old c answer new
 
--- a call of a core returns a reply, and its drivers answer so
+-- a call of a core with its drivers returns this reply and leaves this core
 abbrev pub Calls : {D A : Type 0} → (D → Meaning) → CoreValue D → Call A → Reply A
     → CoreValue D → Type 0
 Calls meaning old c answer new = Step (map meaning old.drivers) old.state c answer new.state
