@@ -26,9 +26,12 @@ row_of (r ∷ rs) [] (suc (suc i)) = row_of rs [] (suc i)
 row_of (r ∷ rs) (m ∷ ms) zero = refl
 row_of (r ∷ rs) (m ∷ ms) (suc i) = row_of rs ms i
 
--- the places of a row that lie beside it
+-- the places of a row that lie beside it are those there
+picked_beside : (rs : List BlockRow) (i : ℕ) (r : BlockRow) (ps : List ℕ) → i < length rs → r ≡ get_or rs i r → r ≡ Many → picked_if (slice_get rs i) ps ≡ ps
+picked_beside rs i r ps l e k = ap (λ o. picked_if o ps) (got rs i r l e ∙ ap (λ (x : BlockRow). Some x) k)
+
 pub row_beside : (rs : List BlockRow) (ms : List (List ℕ)) (i : ℕ) (r : BlockRow) → i < length rs → r ≡ get_or rs i r → r ≡ Many → get_or (joined rs ms) i [] ≡ get_or ms i []
-row_beside rs ms i r l e k = row_of rs ms i ∙ ap (λ o. picked_if o (get_or ms i [])) (got rs i r l e ∙ ap (λ (x : BlockRow). Some x) k)
+row_beside rs ms i r l e k = row_of rs ms i ∙ picked_beside rs i r (get_or ms i []) l e k
 
 pub length_joined : (rs : List BlockRow) (ms : List (List ℕ)) → length (joined rs ms) ≡ length rs
 length_joined [] ms = refl
@@ -137,21 +140,15 @@ pub many_changed : (rs : List BlockRow) (ms : List (Sliding ℕ)) (i : ℕ) (r :
     → row.items ≡ f (places_at ms i) → new.number ≡ g.number → g.rows ≡ joined rs (places_in ms) → new.rows ≡ joined (set rs i r) (places_in (set ms i row)) → ChangesRow i f g new
 many_changed rs ms i r row g new f l e k m h n before after =
     row_changed rs rs (places_in ms) (places_in (set ms i row)) i g new f n before (after ∙ ap (λ ss. joined ss (places_in (set ms i row))) (same_row rs i r e)) (λ j d. refl) (places_set_other ms i row)
-    (there (places_at (set ms i row) i) ∙ places_set ms i row m ∙ h ∙ ap f (sym (there (places_at ms i))))
-  where
-    there : (ps : List ℕ) → picked_if (slice_get rs i) ps ≡ ps
-    there ps = ap (λ o. picked_if o ps) (got rs i r l e ∙ ap (λ (x : BlockRow). Some x) k)
+    (picked_beside rs i r (places_at (set ms i row) i) l e k ∙ places_set ms i row m ∙ h ∙ ap f (sym (picked_beside rs i r (places_at ms i) l e k)))
 
 -- there are no places beside a row, and none that change
 pub none_changed : (rs : List BlockRow) (ms : List (Sliding ℕ)) (i : ℕ) (r : BlockRow) (g new : BlockGroup) (f : List ℕ → List ℕ) → i < length rs → r ≡ get_or rs i r → r ≡ Many → length ms ≤ i
     → f [] ≡ [] → new.number ≡ g.number → g.rows ≡ joined rs (places_in ms) → new.rows ≡ joined (set rs i r) (places_in ms) → ChangesRow i f g new
 none_changed rs ms i r g new f l e k m h n before after =
     row_changed rs rs (places_in ms) (places_in ms) i g new f n before (after ∙ ap (λ ss. joined ss (places_in ms)) (same_row rs i r e)) (λ j d. refl) (λ j d. refl)
-    (there (places_at ms i) ∙ none ms i m ∙ sym h ∙ ap f (sym (none ms i m)) ∙ ap f (sym (there (places_at ms i))))
+    (picked_beside rs i r (places_at ms i) l e k ∙ none ms i m ∙ sym h ∙ ap f (sym (none ms i m)) ∙ ap f (sym (picked_beside rs i r (places_at ms i) l e k)))
   where
-    there : (ps : List ℕ) → picked_if (slice_get rs i) ps ≡ ps
-    there ps = ap (λ o. picked_if o ps) (got rs i r l e ∙ ap (λ (x : BlockRow). Some x) k)
-
     none : (rows : List (Sliding ℕ)) (j : ℕ) → length rows ≤ j → places_at rows j ≡ []
     none [] j w = none_at j
     none (x ∷ rows) zero w = absurd (omega (arith, w))

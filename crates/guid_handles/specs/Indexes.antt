@@ -13,6 +13,11 @@ use Rattle.guid_handles.specs.Sorting.{Ascending, place, kept_if}
 
 -- ---- by handle
 
+-- a live handle of a number, with its maker if a driver made it
+abbrev pub live_handle : ℕ → Bool → ℕ → ℕ → LiveHandle
+live_handle number is_made controller agent =
+    record { number = number; maker = cond is_made (Some (controller, agent)) None }
+
 -- a live handle, and the keys of the interfaces on it in order of installation
 pub record Row : Type 0 where
   pub live : LiveHandle

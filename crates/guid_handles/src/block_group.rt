@@ -24,7 +24,7 @@ enum BlockRow {
     Many,
 }
 
-/// The places in the blocks of a group, and its number. Up to four places of a block lie in its row, so
+/// The places in the blocks of a group, and its number. Up to six places of a block lie in its row, so
 /// that most groups are copied as one piece of memory; a block that had more keeps memory of its own.
 #[derive(Drop)]
 pub(crate) struct BlockGroup<A: Allocator> {

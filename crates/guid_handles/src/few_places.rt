@@ -1,18 +1,18 @@
-//! Up to four places, which take no memory of their own.
+//! A few places, which take no memory of their own.
 ghost use Rattle.std.specs.Prelude.{◌≡◌, ◌<◌, ◌≤◌, ◌==◌, ◌++◌, [], ◌∷◌, true, false, not, length, take};
 ghost use Rattle.std.specs.List.{filter, remove};
 
 use crate::places::index_of;
 
 /// How many places are few.
-const FEW_PLACES: usize = 4;
+const FEW_PLACES: usize = 6;
 
-/// Up to four places, which are copied with what they lie in.
+/// Up to six places. A copy of them takes no memory.
 #[derive(Clone, Copy)]
 pub(crate) struct FewPlaces {
     count: usize,
     places: [usize; FEW_PLACES],
-    ghost counted: { count ≤ 4 },
+    ghost counted: { count ≤ 6 },
 }
 
 impl FewPlaces {
@@ -34,12 +34,13 @@ impl FewPlaces {
         &self.places[..self.count]
     }
 
-    /// Appends a place, and returns whether there was room for it. Where there was none, nothing changes.
+    /// Appends a place, and returns whether there was room for it. Six places have no room for another one,
+    /// and nothing changes.
     pub(crate) fn push(&mut self, place: usize) -> bool
         ensures pushed { result ≡ true
             → take self.new.count self.new.places
             ≡ take self.old.count self.old.places ++ place ∷ [] }
-        ensures full { result ≡ false → self.new ≡ self.old }
+        ensures full { result ≡ false → (self.old.count ≡ 6) × (self.new ≡ self.old) }
     {
         if self.count == FEW_PLACES {
             return false;

@@ -9,20 +9,27 @@ use std::alloc::{AllocError, Allocator};
 use std::marker::Model;
 
 /// A handle, and the keys of the interfaces on it in order of installation. The row of a handle that is
-/// gone may stay for a time.
+/// gone may stay for a time. It takes 64 bytes, and what a look-up reads lies in the first 48.
 #[derive(Drop)]
 pub(crate) struct HandleRow<A: Allocator> {
-    live: LiveHandle,
-    keys: HandleKeys<A>,
+    number: u64,
     gone: bool,
+    // Whether a driver made it, with this controller and as this agent.
+    is_made: bool,
+    keys: HandleKeys<A>,
+    controller: u64,
+    agent: u64,
 }
 
 impl<A: Allocator> Model for HandleRow<A> {
-    ghost use Rattle.guid_handles.specs.Indexes.{FiledRow};
+    ghost use Rattle.guid_handles.specs.Indexes.{FiledRow, live_handle};
 
     ghost Value = { FiledRow };
 
-    ghost view = { λ r. record { row = record { live = r.live; keys = r.keys }; gone = r.gone } };
+    ghost view = { λ r. record {
+      row = record { live = live_handle r.number r.is_made r.controller r.agent; keys = r.keys };
+      gone = r.gone;
+    } };
 }
 
 impl<A: Allocator + Copy> HandleRow<A> {
@@ -34,10 +41,14 @@ impl<A: Allocator + Copy> HandleRow<A> {
         }) }
     {
         let keys = HandleKeys::new(alloc)?;
+        let (controller, agent) = live.maker.unwrap_or((0, 0));
         Ok(HandleRow {
-            live,
-            keys,
+            number: live.number,
             gone: false,
+            is_made: live.maker.is_some(),
+            keys,
+            controller,
+            agent,
         })
     }
 
@@ -47,9 +58,12 @@ impl<A: Allocator + Copy> HandleRow<A> {
     {
         let keys = self.keys.try_copy()?;
         Ok(HandleRow {
-            live: self.live,
-            keys,
+            number: self.number,
             gone: self.gone,
+            is_made: self.is_made,
+            keys,
+            controller: self.controller,
+            agent: self.agent,
         })
     }
 
@@ -57,14 +71,21 @@ impl<A: Allocator + Copy> HandleRow<A> {
     pub(crate) fn live(&self) -> LiveHandle
         ensures { result ≡ self.now.row.live }
     {
-        self.live
+        LiveHandle {
+            number: self.number,
+            maker: if self.is_made {
+                Some((self.controller, self.agent))
+            } else {
+                None
+            },
+        }
     }
 
     /// The number of the handle.
     pub(crate) fn number(&self) -> u64
         ensures { result ≡ self.now.row.live.number }
     {
-        self.live.number
+        self.number
     }
 
     /// Whether the handle is gone.
@@ -78,7 +99,7 @@ impl<A: Allocator + Copy> HandleRow<A> {
     pub(crate) fn is_of(&self, number: u64) -> bool
         ensures { result ≡ is_filed_of number self.now }
     {
-        self.live.number == number && !self.gone
+        self.number == number && !self.gone
     }
 
     /// Notes that the handle is gone.

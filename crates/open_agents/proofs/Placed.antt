@@ -2,7 +2,7 @@
 use Rattle.std.proofs.Math.ListN.{set}
 use Rattle.std.proofs.Common.{get_or, ◌≡◌, ℕ, zero, suc, ◌+◌, ◌<◌, ◌≤◌, ◌==◌, ◌&&◌, not, Bool, true, false, cond, List, [], ◌∷◌, ◌++◌, map, length, Option, Some, None, is_some, inl, inr, refl, sym, ap, ◌∙◌, arith, subst}
 use Rattle.std.specs.List.{filter, list_any, slice_get, AllByRecursion}
-use Rattle.std.proofs.lemmas.List.{append-nil}
+use Rattle.std.proofs.lemmas.List.{append-nil, length_push}
 use Rattle.std.proofs.lemmas.Bool.{cases_Bool, eq-eqb, ne_eqb}
 use Rattle.std.proofs.lemmas.Option.{same_Some}
 use Rattle.guid_handles.specs.HandleTables.{same_guid}
@@ -112,12 +112,18 @@ filter_vacated q (Some o ∷ ss) (suc k) x e f = ap (λ r. cond (q o) (o ∷ r) 
 pub without_held : (p : OpenRecord → Bool) (slots : List (Option OpenRecord)) (k : ℕ) → HoldsAt p slots k → filter (λ o. not (p o)) (items_in (set slots k None)) ≡ filter (λ o. not (p o)) (items_in slots)
 without_held p slots k h = let w = held p slots k h in filter_vacated (λ o. not (p o)) slots k w.0 w.1 (ap not w.2)
 
-vacated_count : (slots : List (Option OpenRecord)) (k : ℕ) (x : OpenRecord) → item_at slots k ≡ Some x → length (items_in (set slots k None)) + 1 ≡ length (items_in slots)
+pub vacated_count : (slots : List (Option OpenRecord)) (k : ℕ) (x : OpenRecord) → item_at slots k ≡ Some x → length (items_in (set slots k None)) + 1 ≡ length (items_in slots)
 vacated_count [] k x e = absurd cc
 vacated_count (None ∷ ss) zero x e = absurd cc
 vacated_count (Some o ∷ ss) zero x e = omega arith
 vacated_count (None ∷ ss) (suc k) x e = vacated_count ss k x e
 vacated_count (Some o ∷ ss) (suc k) x e = omega (arith, vacated_count ss k x e)
+
+-- there are no more items than places
+pub few_items : (slots : List (Option OpenRecord)) → length (items_in slots) ≤ length slots
+few_items [] = omega arith
+few_items (None ∷ ss) = omega (arith, few_items ss)
+few_items (Some o ∷ ss) = omega (arith, few_items ss)
 
 pub vacated_smaller : (p : OpenRecord → Bool) (slots : List (Option OpenRecord)) (k : ℕ) → HoldsAt p slots k → length (items_in (set slots k None)) < length (items_in slots)
 vacated_smaller p slots k h = let w = held p slots k h in omega (arith, vacated_count slots k w.0 w.1)
@@ -228,6 +234,9 @@ pub items_pushed : (slots : List (Option OpenRecord)) (o : OpenRecord) → items
 items_pushed [] o = refl
 items_pushed (None ∷ ss) o = items_pushed ss o
 items_pushed (Some p ∷ ss) o = ap (λ r. p ∷ r) (items_pushed ss o)
+
+pub count_pushed : (slots : List (Option OpenRecord)) (o : OpenRecord) → length (items_in (slots ++ Some o ∷ [])) ≡ length (items_in slots) + 1
+count_pushed slots o = ap length (items_pushed slots o) ∙ length_push (items_in slots) o
 
 places_pushed : (q : OpenRecord → Bool) (slots : List (Option OpenRecord)) (i : ℕ) (o : OpenRecord) → places_from i q (slots ++ Some o ∷ []) ≡ places_from i q slots ++ cond (q o) ((i + length slots) ∷ []) []
 places_pushed q [] i o = ap (λ n. cond (q o) (n ∷ []) []) (omega arith)
@@ -368,6 +377,14 @@ one_counted n guid agent controller a (Some o ∷ ss) (suc k) x d e t =
     let f : are_equal x o ≡ false = got_item (λ p. are_equal p o ≡ false) ss k x d.0 e in
     let other : q o ≡ false = sym (equal_as n guid agent controller a x o t) ∙ f in
     rw other (ap (λ r. o ∷ r) (one_counted n guid agent controller a ss k x d.1 e t))
+
+-- where an item is counted there are as many
+pub count_stays : (slots : List (Option OpenRecord)) (k : ℕ) (x y : OpenRecord) → item_at slots k ≡ Some x → length (items_in (set slots k (Some y))) ≡ length (items_in slots)
+count_stays [] k x y e = absurd cc
+count_stays (None ∷ ss) zero x y e = absurd cc
+count_stays (Some o ∷ ss) zero x y e = refl
+count_stays (None ∷ ss) (suc k) x y e = count_stays ss k x y e
+count_stays (Some o ∷ ss) (suc k) x y e = ap suc (count_stays ss k x y e)
 
 counted_equal : (q : OpenRecord → Bool) (o p : OpenRecord) → are_equal (counted q o) (counted q p) ≡ are_equal o p
 counted_equal q o p = elim (cases_Bool (q o)) [

@@ -22,7 +22,7 @@ use crate::questions::{
     find_equal, find_last_naming, first_driver_item, has_equal, has_exclusive, has_of_agent,
     is_held, usage_near,
 };
-use crate::store::{ItemStore, count_items};
+use crate::store::ItemStore;
 use guid_handles::Handles;
 use page_ranges::Status;
 use std::alloc::{AllocError, Allocator, Global};
@@ -75,7 +75,7 @@ impl<A: Allocator + Copy> Opens<A> {
         ensures count { result ≡ length self.now }
         ensures bound { result < 2 ^ 63 }
     {
-        count_items(self.items.slots())
+        self.items.len()
     }
 
     /// The items near a handle: those on it and, if it is not 0, those whose controller it is.

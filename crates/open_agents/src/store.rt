@@ -22,6 +22,8 @@ use uuid::Uuid;
 pub(crate) struct ItemStore<A: Allocator> {
     // In the order in which they were made.
     slots: Vec<Option<OpenRecord>, A>,
+    // How many of these are not empty.
+    count: usize,
     // Their places, by handle and by controller.
     blocks: Blocks<A>,
     // Their places, by agent.
@@ -29,15 +31,16 @@ pub(crate) struct ItemStore<A: Allocator> {
 }
 
 impl<A: Allocator> Model for ItemStore<A> {
-    ghost use Rattle.std.specs.Prelude.{List, Option};
+    ghost use Rattle.std.specs.Prelude.{◌≡◌, List, Option, length};
     ghost use Rattle.open_agents.specs.declared.items.OpenRecord.{OpenRecord};
-    ghost use Rattle.open_agents.specs.Blocks.{IsOpenStore};
+    ghost use Rattle.open_agents.specs.Blocks.{IsOpenStore, items_in};
 
     ghost Value = { List (Option OpenRecord) };
 
     ghost view = { λ s. s.slots.items };
 
-    ghost invariant = { λ s. IsOpenStore s.slots.items s.blocks s.agents };
+    ghost invariant = { λ s. IsOpenStore s.slots.items s.blocks s.agents
+        × (s.count ≡ length (items_in s.slots.items)) };
 }
 
 impl<A: Allocator + Copy> ItemStore<A> {
@@ -47,6 +50,7 @@ impl<A: Allocator + Copy> ItemStore<A> {
     {
         ItemStore {
             slots: Vec::new(alloc),
+            count: 0,
             blocks: Blocks::new(alloc),
             agents: Blocks::new(alloc),
         }
@@ -61,6 +65,7 @@ impl<A: Allocator + Copy> ItemStore<A> {
         let agents = self.agents.try_copy()?;
         Ok(ItemStore {
             slots,
+            count: self.count,
             blocks,
             agents,
         })
@@ -77,6 +82,14 @@ impl<A: Allocator + Copy> ItemStore<A> {
         ensures agents { AllByRecursion (λ o. (o.agent == 0) ≡ false) (items_in self.now) }
     {
         self.slots.as_slice()
+    }
+
+    /// How many items there are.
+    pub(crate) fn len(&self) -> usize
+        ensures count { result ≡ length (items_in self.now) }
+        ensures bound { result < 2 ^ 63 }
+    {
+        self.count
     }
 
     /// The items in the block of a handle.
@@ -149,6 +162,7 @@ impl<A: Allocator + Copy> ItemStore<A> {
     {
         if let Some(item) = self.slots[place] {
             self.slots[place] = None;
+            self.count -= 1;
             let second = second_block(&item);
             self.blocks
                 .remove_ascending_from_both(item.handle, second, place);
@@ -211,7 +225,7 @@ impl<A: Allocator + Copy> ItemStore<A> {
     pub(crate) fn truncate(&mut self, count: usize)
         ensures { items_in self.new ≡ take count (items_in self.old) }
     {
-        let mut left = count_items(self.slots.as_slice());
+        let mut left = self.count;
         let mut end = self.slots.len();
         while left > count {
             end = self.drop_last(end);
@@ -230,6 +244,7 @@ impl<A: Allocator + Copy> ItemStore<A> {
         let place = self.slots.as_slice().len();
         file_place(&mut self.blocks, &mut self.agents, item, place)?;
         push_with_room(&mut self.slots, Some(*item));
+        self.count += 1;
         Ok(())
     }
 
@@ -251,8 +266,7 @@ impl<A: Allocator + Copy> ItemStore<A> {
     fn tidy(&mut self)
         ensures { items_in self.new ≡ items_in self.old }
     {
-        let slots = self.slots();
-        if count_items(slots) <= slots.len() / 2 {
+        if self.count <= self.slots.len() / 2 {
             if let Ok(fresh) = self.compacted() {
                 *self = fresh;
             }
@@ -317,18 +331,4 @@ fn push_with_room<T: Drop, A: Allocator>(items: &mut Vec<T, A>, item: T)
     if items.push(item).is_err() {
         unreachable!();
     }
-}
-
-/// How many items there are.
-pub(crate) fn count_items(slots: &[Option<OpenRecord>]) -> usize
-    ensures count { result ≡ length (items_in slots.now) }
-    ensures bound { result < 2 ^ 63 }
-{
-    let mut count = 0;
-    for slot in slots {
-        if slot.is_some() {
-            count += 1;
-        }
-    }
-    count
 }

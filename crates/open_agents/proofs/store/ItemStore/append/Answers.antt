@@ -1,4 +1,5 @@
-use Rattle.open_agents.proofs.Placed.{items_pushed, next_free, store_pushed, store_stays}
+use Rattle.std.proofs.Common.{◌+◌, ◌<◌, ◌^◌, ap, arith, length}
+use Rattle.open_agents.proofs.Placed.{count_pushed, few_items, items_pushed, next_free, store_pushed, store_stays}
 use Rattle.open_agents.proofs.store.ItemStore.append.Goals as goal
 
 pub returns-clause-ok : goal.returns-clause-ok
@@ -6,16 +7,24 @@ returns-clause-ok g c =
     rw (c.push_with_room.ensures, c.reserve.ensures.items, ← c.self.view_is) (items_pushed c.self.inside.slots.items c.args.item.now)
 
 pub file_place-requires : goal.file_place-requires
-file_place-requires g c = rw (c.as_slice-place.ensures.value, c.reserve.ensures.items) (next_free _ _ _ c.self.invariant)
+file_place-requires g c = rw (c.as_slice-place.ensures.value, c.reserve.ensures.items) (next_free _ _ _ c.self.invariant.0)
 
 pub invariant_of-self-in_err-file_place : goal.invariant_of-self-in_err-file_place
 invariant_of-self-in_err-file_place g c =
     rw (c.reserve.ensures.items, c.in_err-file_place.ensures.no_agent)
-    (store_stays _ _ _ _ c.self.invariant c.in_err-file_place.ensures.err)
+    (store_stays _ _ _ _ c.self.invariant.0 c.in_err-file_place.ensures.err, c.self.invariant.1)
 
 pub invariant_of-self-2 : goal.invariant_of-self-2
 invariant_of-self-2 g c =
-    rw (c.push_with_room.ensures, c.reserve.ensures.items)
-    (store_pushed _ c.args.item.now _ _ _ _ c.self.invariant (rw (← c.self.view_is) at c.requires.new) c.requires.agent
-    (rw (c.as_slice-place.ensures.value, c.reserve.ensures.items) at c.in_ok-file_place.ensures.blocks)
-    (rw (c.as_slice-place.ensures.value, c.reserve.ensures.items) at c.in_ok-file_place.ensures.agents))
+    rw (c.push_with_room.ensures, c.reserve.ensures.items) (
+      store_pushed _ c.args.item.now _ _ _ _ c.self.invariant.0 (rw (← c.self.view_is) at c.requires.new) c.requires.agent
+          (rw (c.as_slice-place.ensures.value, c.reserve.ensures.items) at c.in_ok-file_place.ensures.blocks)
+          (rw (c.as_slice-place.ensures.value, c.reserve.ensures.items) at c.in_ok-file_place.ensures.agents),
+      rw (count_pushed c.self.inside.slots.items c.args.item.now) (ap (λ n. n + 1) c.self.invariant.1),
+    )
+
+pub overflow_add-self : goal.overflow_add-self
+overflow_add-self g c =
+    let slots = c.self.inside.slots in
+    let low : length slots.items < 2 ^ 63 = omega (arith, slots.ok.0, slots.ok.1, slots.small) in
+    omega (arith, low, c.self.invariant.1, few_items slots.items)

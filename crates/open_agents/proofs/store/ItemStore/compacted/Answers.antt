@@ -10,13 +10,13 @@ pub append-requires-clause-new : goal.append-requires-clause-new
 append-requires-clause-new g c =
     let next = drop_next c.as_slice-slots.result.now c.loop-slot.slot-index c.slot-item.result c.loop-slot-test.true c.slot-item.is in
     let whole = rw (next, c.in-Some.is) at c.loop-slot.invariant in
-    none_ahead (items_in c.loop-slot.fresh) c.in-Some.item (items_in (drop (c.loop-slot.slot-index + 1) c.as_slice-slots.result.now)) _ whole (rw c.as_slice-slots.ensures.value c.self.invariant.distinct)
+    none_ahead (items_in c.loop-slot.fresh) c.in-Some.item (items_in (drop (c.loop-slot.slot-index + 1) c.as_slice-slots.result.now)) _ whole (rw c.as_slice-slots.ensures.value c.self.invariant.0.distinct)
 
 pub append-requires-clause-agent : goal.append-requires-clause-agent
 append-requires-clause-agent g c =
     let next = drop_next c.as_slice-slots.result.now c.loop-slot.slot-index c.slot-item.result c.loop-slot-test.true c.slot-item.is in
     let whole = rw (next, c.in-Some.is) at c.loop-slot.invariant in
-    all_ahead (λ (o : OpenRecord). (o.agent == 0) ≡ false) (items_in c.loop-slot.fresh) c.in-Some.item (items_in (drop (c.loop-slot.slot-index + 1) c.as_slice-slots.result.now)) _ whole (rw c.as_slice-slots.ensures.value c.self.invariant.agents)
+    all_ahead (λ (o : OpenRecord). (o.agent == 0) ≡ false) (items_in c.loop-slot.fresh) c.in-Some.item (items_in (drop (c.loop-slot.slot-index + 1) c.as_slice-slots.result.now)) _ whole (rw c.as_slice-slots.ensures.value c.self.invariant.0.agents)
 
 pub loop-slot-preserved : goal.loop-slot-preserved
 loop-slot-preserved g c =
