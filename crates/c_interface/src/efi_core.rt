@@ -1,16 +1,18 @@
 //! A core that a caller in C has.
-ghost use Rattle.std.specs.Prelude.{◌≡◌, ◌<◌, false, length, None, OnErr, OnOk, Some, true, option_map};
+ghost use Rattle.std.specs.Prelude.{◌≡◌, ◌<◌, false, length, IfNone, IfSome, None, OnErr, OnOk, Some, true, option_and_then};
 ghost use Rattle.c_interface.specs.EfiCores.{KeepsBlock, with_last};
 ghost use Rattle.page_ranges.specs.Statuses.{status_number};
 ghost use Rattle.boot_replies.specs.Certified.{certified};
 ghost use Rattle.c_interface.specs.Buffers.{front_filled};
 ghost use Rattle.c_interface.specs.EfiCores.{certifying_core, forgotten, last_events, preparing_core};
+ghost use Rattle.c_interface.specs.LastReplies.{brief_reply, brief_status, is_of_memory_if};
 ghost use Rattle.c_interface.specs.Paths.{with_reply};
 ghost use Rattle.c_interface.specs.Replies.{number_in, returned_or, status_in};
 ghost use Rattle.c_interface.specs.Served.{AnswersStatus, AnswersNumber, AnswersNumbers, ReturnsBlock};
 
 use crate::buffers::copy_to_front;
-use crate::replies::{events_in, number_in, numbers_in, status_in, status_number_in};
+use crate::last_reply::{BriefReply, LastReply};
+use crate::replies::{number_in, status_in, status_number_in};
 use boot_core::{Call, Core, Reply, certified, map_before};
 use certificate_blocks::print_block;
 use driver_connect::TableDriver;
@@ -55,17 +57,22 @@ pub struct EfiCore<A: Allocator = Global> {
     pub(crate) alloc: A,
     pub(crate) core: Core<TableDriver, A>,
     pub(crate) certifies: bool,
-    last: Option<Reply<A>>,
+    pub(crate) last: LastReply<A>,
     pub(crate) block: LastBlock<A>,
 }
 
 impl<A: Allocator> Model for EfiCore<A> {
     ghost use Rattle.c_interface.specs.EfiCores.{EfiCoreValue};
+    ghost use Rattle.c_interface.specs.LastReplies.{reply_in};
 
     ghost Value = { EfiCoreValue A };
 
-    ghost view = { λ c.
-        record { core = c.core; certifies = c.certifies; last = c.last; block = c.block } };
+    ghost view = { λ c. record {
+      core = c.core;
+      certifies = c.certifies;
+      last = reply_in c.last;
+      block = c.block;
+    } };
 }
 
 impl<A: Allocator + Copy> EfiCore<A> {
@@ -78,7 +85,7 @@ impl<A: Allocator + Copy> EfiCore<A> {
             alloc,
             core,
             certifies: false,
-            last: None,
+            last: LastReply::none(),
             block: LastBlock::Nothing,
         }
     }
@@ -105,7 +112,7 @@ impl<A: Allocator + Copy> EfiCore<A> {
     pub(crate) fn forget(&mut self)
         ensures { self.new ≡ forgotten self.old }
     {
-        self.last = None;
+        self.last.forget();
         self.block = LastBlock::Nothing;
     }
 
@@ -124,20 +131,8 @@ impl<A: Allocator + Copy> EfiCore<A> {
     fn keep(&mut self, reply: Reply<A>, block: LastBlock<A>)
         ensures { self.new ≡ with_last self.old reply block }
     {
-        self.last = Some(reply);
+        self.last.leave_in_place(reply);
         self.block = block;
-    }
-
-    // Keeps the reply to a call before which no reply is left.
-    #[inline(always)]
-    fn leave(&mut self, reply: Reply<A>)
-        requires { self.old.last ≡ None }
-        ensures { self.new ≡ with_reply self.old reply }
-    {
-        match self.last.replace(reply) {
-            None => {}
-            Some(_before) => unreachable!(),
-        }
     }
 
     /// Keeps the reply to a call before which no reply is left, and returns its status.
@@ -158,7 +153,19 @@ impl<A: Allocator + Copy> EfiCore<A> {
         ensures status { result ≡ status_number (status_in reply) }
         ensures core { self.new ≡ with_reply self.old reply }
     {
-        self.leave(reply);
+        self.last.leave(reply);
+        status.number()
+    }
+
+    /// The same of a brief reply.
+    #[inline(always)]
+    pub(crate) fn return_brief(&mut self, status: Status, brief: BriefReply) -> u64
+        requires last { self.old.last ≡ None }
+        requires status { status ≡ brief_status brief }
+        ensures status { result ≡ status_number status }
+        ensures core { self.new ≡ with_reply self.old (brief_reply brief) }
+    {
+        self.last.leave_brief(brief);
         status.number()
     }
 
@@ -174,7 +181,7 @@ impl<A: Allocator + Copy> EfiCore<A> {
         if let Some(number) = number_in(&reply) {
             *place = number;
         }
-        self.leave(reply);
+        self.last.leave(reply);
         status
     }
 
@@ -184,15 +191,23 @@ impl<A: Allocator + Copy> EfiCore<A> {
         ensures core { self.new ≡ with_reply self.old reply }
     {
         let status = status_number_in(&reply);
-        self.last = Some(reply);
+        self.last.leave_in_place(reply);
         status
     }
 
-    /// The reply of the last call.
-    pub(crate) fn last_reply(&self) -> Option<&Reply<A>>
-        ensures { option_map (λ reply. reply.now) result ≡ self.now.last }
+    /// The reply of the last call, unless it is one of a memory service.
+    pub(crate) fn other_reply(&self) -> Option<&Reply<A>>
+        ensures some { IfSome result (λ reply. self.now.last ≡ Some reply.now) }
+        ensures none { IfNone result (is_of_memory_if self.now.last ≡ true) }
     {
-        self.last.as_ref()
+        self.last.other()
+    }
+
+    /// The number that the reply to the last call carries.
+    pub(crate) fn last_number(&self) -> Option<u64>
+        ensures { result ≡ option_and_then number_in self.now.last }
+    {
+        self.last.number()
     }
 
     /// Makes a call, and returns its status as a number of EFI_STATUS.
@@ -229,7 +244,7 @@ impl<A: Allocator + Copy> EfiCore<A> {
         ensures { AnswersNumber self.old call.now place.old result place.new self.new }
     {
         let status = self.answer(call);
-        if let Some(number) = self.last.as_ref().and_then(number_in) {
+        if let Some(number) = self.last.number() {
             *place = number;
         }
         status
@@ -246,7 +261,7 @@ impl<A: Allocator + Copy> EfiCore<A> {
             (first.new, second.new) self.new }
     {
         let status = self.answer(call);
-        if let Some(numbers) = self.last.as_ref().and_then(numbers_in) {
+        if let Some(numbers) = self.last.numbers() {
             *first = numbers.0;
             *second = numbers.1;
         }
@@ -267,10 +282,7 @@ impl<A: Allocator + Copy> EfiCore<A> {
     fn signaled(&self) -> &[u64]
         ensures { result.now ≡ last_events self.now }
     {
-        match &self.last {
-            Some(reply) => events_in(reply),
-            None => &[],
-        }
+        self.last.events()
     }
 
     /// The block of the certificate of the last call, in the front of a buffer; their number is put into

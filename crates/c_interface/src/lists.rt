@@ -42,7 +42,7 @@ impl<A: Allocator + Copy> EfiCore<A> {
             key,
             size,
         });
-        if let Some(Reply::LocateHandle(returned)) = self.last_reply() {
+        if let Some(Reply::LocateHandle(returned)) = self.other_reply() {
             copy_to_front(buffer, returned.handles.as_slice());
             if let Some(size) = returned_size(returned.status, returned.size) {
                 *needed = size;
@@ -59,7 +59,7 @@ impl<A: Allocator + Copy> EfiCore<A> {
             self.new }
     {
         let status = self.answer(&Call::ProtocolsPerHandle { handle });
-        let Some(Reply::ProtocolsPerHandle(Ok(guids))) = self.last_reply() else {
+        let Some(Reply::ProtocolsPerHandle(Ok(guids))) = self.other_reply() else {
             return status;
         };
         *count = guids.len() as u64;

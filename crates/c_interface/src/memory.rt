@@ -5,6 +5,7 @@ ghost use Rattle.c_interface.specs.Served.{AnswersStatus, AnswersRead};
 ghost use Rattle.c_interface.specs.Services.{AllocatesPages, AllocatesPool, Maps};
 
 use crate::efi_core::{ABORTED, EfiCore};
+use crate::last_reply::BriefReply;
 use boot_core::{Call, Reply};
 use map_keys::{DESCRIPTOR_VERSION, RECORD_SIZE};
 use page_ranges::Status;
@@ -31,9 +32,13 @@ impl<A: Allocator + Copy> EfiCore<A> {
         match self.core.allocate_pages(kind, mtype, pages, *memory) {
             Ok(placed) => {
                 *memory = placed.address;
-                self.return_known(Status::Success, Reply::AllocatePages(Ok(placed)))
+                if placed.certificate.is_some() {
+                    return self.return_known(Status::Success, Reply::AllocatePages(Ok(placed)));
+                }
+                let brief = BriefReply::AllocatePages(Ok(placed.address));
+                self.return_brief(Status::Success, brief)
             }
-            Err(status) => self.return_known(status, Reply::AllocatePages(Err(status))),
+            Err(status) => self.return_brief(status, BriefReply::AllocatePages(Err(status))),
         }
     }
 
@@ -45,8 +50,8 @@ impl<A: Allocator + Copy> EfiCore<A> {
             return ABORTED;
         }
         match self.core.free_pages(memory, pages) {
-            Ok(()) => self.return_known(Status::Success, Reply::FreePages(Ok(()))),
-            Err(status) => self.return_known(status, Reply::FreePages(Err(status))),
+            Ok(()) => self.return_brief(Status::Success, BriefReply::FreePages(Ok(()))),
+            Err(status) => self.return_brief(status, BriefReply::FreePages(Err(status))),
         }
     }
 
@@ -102,8 +107,8 @@ impl<A: Allocator + Copy> EfiCore<A> {
             return ABORTED;
         }
         match self.core.pool_write(address, bytes) {
-            Ok(()) => self.return_known(Status::Success, Reply::PoolWrite(Ok(()))),
-            Err(status) => self.return_known(status, Reply::PoolWrite(Err(status))),
+            Ok(()) => self.return_brief(Status::Success, BriefReply::PoolWrite(Ok(()))),
+            Err(status) => self.return_brief(status, BriefReply::PoolWrite(Err(status))),
         }
     }
 
@@ -120,10 +125,13 @@ impl<A: Allocator + Copy> EfiCore<A> {
         match self.core.allocate_pool(mtype, size) {
             Ok((address, certificate)) => {
                 *buffer = address;
-                let reply = Reply::AllocatePool(Ok((address, certificate)));
-                self.return_known(Status::Success, reply)
+                if certificate.is_some() {
+                    let reply = Reply::AllocatePool(Ok((address, certificate)));
+                    return self.return_known(Status::Success, reply);
+                }
+                self.return_brief(Status::Success, BriefReply::AllocatePool(Ok(address)))
             }
-            Err(status) => self.return_known(status, Reply::AllocatePool(Err(status))),
+            Err(status) => self.return_brief(status, BriefReply::AllocatePool(Err(status))),
         }
     }
 
@@ -135,8 +143,8 @@ impl<A: Allocator + Copy> EfiCore<A> {
             return ABORTED;
         }
         match self.core.free_pool(address) {
-            Ok(()) => self.return_known(Status::Success, Reply::FreePool(Ok(()))),
-            Err(status) => self.return_known(status, Reply::FreePool(Err(status))),
+            Ok(()) => self.return_brief(Status::Success, BriefReply::FreePool(Ok(()))),
+            Err(status) => self.return_brief(status, BriefReply::FreePool(Err(status))),
         }
     }
 

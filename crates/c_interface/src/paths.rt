@@ -1,8 +1,7 @@
 //! Device paths in the caller's memory.
-ghost use Rattle.std.specs.Prelude.{◌≡◌, ◌+◌, ◌≤◌, option_and_then};
+ghost use Rattle.std.specs.Prelude.{◌≡◌, ◌+◌, ◌≤◌};
 ghost use Rattle.c_machines.specs.Guids.{guid_in};
 ghost use Rattle.c_interface.specs.EfiCores.{meanings};
-ghost use Rattle.c_interface.specs.Replies.{number_in};
 ghost use Rattle.c_interface.specs.Paths.{AnswersPath, InstallsBlock, InstallsPath, RunsUntilRefused, path_calls, with_core};
 
 use crate::efi_core::{ABORTED, EfiCore};
@@ -70,16 +69,6 @@ impl<A: Allocator + Copy> EfiCore<A> {
         match self.last_number() {
             Some(block) => self.install_at(handle, path, block, address),
             None => status,
-        }
-    }
-
-    // The number that the reply to the last call carries.
-    fn last_number(&self) -> Option<u64>
-        ensures { result ≡ option_and_then number_in self.now.last }
-    {
-        match self.last_reply() {
-            Some(reply) => number_in(reply),
-            None => None,
         }
     }
 

@@ -23,7 +23,10 @@ impl<A: Allocator + Copy> EfiCore<A> {
     fn printed(&self, number: u64) -> LastBlock<A>
         ensures { PrintsLast number self.now.last self.now.block result }
     {
-        match self.last_reply() {
+        if let Some(brief) = self.last.brief {
+            return print_last(self.alloc, number, &brief.reply(), &self.block);
+        }
+        match &self.last.other {
             Some(reply) => print_last(self.alloc, number, reply, &self.block),
             None => LastBlock::Nothing,
         }
