@@ -254,7 +254,8 @@ static void refuse_installations(bool is_one_handle)
     RafkudinFree(core);
 }
 
-/* Opens of five interfaces by each agent: with its fifth open item an agent takes memory of its own. */
+/* Opens of seven interfaces by each agent: with its seventh open item an agent takes memory of its
+ * own. */
 static void refuse_opens(void)
 {
     struct rafkudin *core = plain_core();
@@ -263,7 +264,7 @@ static void refuse_opens(void)
     for (unsigned round = 0; round < ROUNDS; round++)
         succeed(core, (struct call){INSTALL, 0, DRIVEN, 0, 0});
     for (uint64_t agent = 1; agent <= ROUNDS; agent++)
-        for (uint64_t handle = 1; handle <= 5; handle++)
+        for (uint64_t handle = 1; handle <= 7; handle++)
             count += refusals_of(
                 core, (struct call){OPEN, handle, DRIVEN, agent, RAFKUDIN_GET_PROTOCOL});
     HOLDS(count >= ROUNDS);
