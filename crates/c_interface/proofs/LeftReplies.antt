@@ -1,5 +1,5 @@
 -- A call of the core whose reply is left to be asked for.
-use Rattle.std.proofs.Common.{◌≡◌, ◌∙◌, refl, ap, Option, Some, None, is_some, false}
+use Rattle.std.proofs.Common.{◌≡◌, ◌∙◌, refl, ap}
 use Rattle.boot_calls.specs.declared.calls.Call.{Call}
 use Rattle.boot_replies.specs.declared.replies.Reply.{Reply}
 use Rattle.boot_replies.specs.Certified.{certified}
@@ -22,14 +22,9 @@ reply_left {A = A} old begun new core asked answer e left step drivers n = recor
   last = rw n refl;
 }
 
--- the same of a reply that is kept as another one that is the same
+-- the same where the reply is kept in another form
 pub brief_left : {A : Type 0} (old begun new : EfiCoreValue A) (core : CoreValue TableDriver) (asked : Call A) (brief answer : Reply A) → begun ≡ forgotten old
     → LeavesBlock {A = A} old.certifies (kept_map old.certifies old.core.state asked) (certified old.core.state.parts.book.granule asked answer) block.Nothing
     → Step (meanings begun) begun.core.state asked answer core.state → core.drivers ≡ begun.core.drivers → brief ≡ answer → new ≡ with_reply (with_core begun core) brief → Serves old asked answer new
 brief_left old begun new core asked brief answer e left step drivers same n =
     reply_left old begun new core asked answer e left step drivers (n ∙ ap (with_reply (with_core begun core)) same)
-
--- there is none
-pub none_left : {X : Type 0} (o : Option X) → is_some o ≡ false → None ≡ o
-none_left None e = refl
-none_left (Some x) e = cc

@@ -1,9 +1,7 @@
 -- The reply of the last call, as a core in C keeps it.
-use Rattle.std.specs.Prelude.{ℕ, Bool, true, false, Option, Some, None, Ok, Err}
-use Rattle.page_ranges.specs.declared.statuses.Status.{Status}
+use Rattle.std.specs.Prelude.{Bool, true, false, Option, Some, None, Ok, Err}
 use Rattle.boot_replies.specs.declared.replies.Reply.{Reply}
 use Rattle.boot_replies.specs.declared.replies.Reply.TheVariants as reply
-use Rattle.c_interface.specs.Replies.{returned_status}
 use Rattle.c_interface.specs.declared.last_reply.BriefReply.{BriefReply}
 use Rattle.c_interface.specs.declared.last_reply.BriefReply.TheVariants as brief
 use Rattle.c_interface.specs.declared.last_reply.LastReply.{LastReply}
@@ -19,20 +17,7 @@ brief_reply (brief.AllocatePool (Err status)) = reply.AllocatePool (Err status)
 brief_reply (brief.FreePool result) = reply.FreePool result
 brief_reply (brief.PoolWrite result) = reply.PoolWrite result
 
--- the status of such a reply
-abbrev pub brief_status : BriefReply → Status
-brief_status (brief.AllocatePages result) = returned_status result
-brief_status (brief.FreePages result) = returned_status result
-brief_status (brief.AllocatePool result) = returned_status result
-brief_status (brief.FreePool result) = returned_status result
-brief_status (brief.PoolWrite result) = returned_status result
-
--- the number that such a reply has
-abbrev pub brief_number : BriefReply → Option ℕ
-brief_number (brief.AllocatePages (Ok address)) = Some address
-brief_number (brief.AllocatePool (Ok address)) = Some address
-brief_number kept = None
-
+-- the brief reply, if there is one, else the other one
 abbrev pub brief_or : {A : Type 0} → Option BriefReply → Option (Reply A) → Option (Reply A)
 brief_or None other = other
 brief_or (Some kept) other = Some (brief_reply kept)

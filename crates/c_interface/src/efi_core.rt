@@ -5,7 +5,7 @@ ghost use Rattle.page_ranges.specs.Statuses.{status_number};
 ghost use Rattle.boot_replies.specs.Certified.{certified};
 ghost use Rattle.c_interface.specs.Buffers.{front_filled};
 ghost use Rattle.c_interface.specs.EfiCores.{certifying_core, forgotten, last_events, preparing_core};
-ghost use Rattle.c_interface.specs.LastReplies.{brief_reply, brief_status, is_of_memory_if};
+ghost use Rattle.c_interface.specs.LastReplies.{brief_reply, is_of_memory_if};
 ghost use Rattle.c_interface.specs.Paths.{with_reply};
 ghost use Rattle.c_interface.specs.Replies.{number_in, returned_or, status_in};
 ghost use Rattle.c_interface.specs.Served.{AnswersStatus, AnswersNumber, AnswersNumbers, ReturnsBlock};
@@ -157,11 +157,10 @@ impl<A: Allocator + Copy> EfiCore<A> {
         status.number()
     }
 
-    /// The same of a brief reply.
+    /// Keeps a brief reply, whose status is known, and returns that.
     #[inline(always)]
     pub(crate) fn return_brief(&mut self, status: Status, brief: BriefReply) -> u64
-        requires last { self.old.last ≡ None }
-        requires status { status ≡ brief_status brief }
+        requires { status ≡ status_in {A = A} (brief_reply brief) }
         ensures status { result ≡ status_number status }
         ensures core { self.new ≡ with_reply self.old (brief_reply brief) }
     {
@@ -195,7 +194,7 @@ impl<A: Allocator + Copy> EfiCore<A> {
         status
     }
 
-    /// The reply of the last call, unless it is one of a memory service.
+    /// The reply of the last call, unless it is a brief one of a memory service.
     pub(crate) fn other_reply(&self) -> Option<&Reply<A>>
         ensures some { IfSome result (λ reply. self.now.last ≡ Some reply.now) }
         ensures none { IfNone result (is_of_memory_if self.now.last ≡ true) }

@@ -1,7 +1,7 @@
 //! The reply of the last call, as it is kept.
 ghost use Rattle.std.specs.Prelude.{◌≡◌, None, Some, IfNone, IfSome, true, option_and_then};
 ghost use Rattle.c_interface.specs.EfiCores.{events_if};
-ghost use Rattle.c_interface.specs.LastReplies.{brief_number, brief_reply, is_of_memory_if, reply_in};
+ghost use Rattle.c_interface.specs.LastReplies.{brief_reply, is_of_memory_if, reply_in};
 ghost use Rattle.c_interface.specs.Replies.{number_in, numbers_in};
 
 use crate::replies::{events_in, number_in, numbers_in};
@@ -40,21 +40,10 @@ impl BriefReply {
             BriefReply::PoolWrite(written) => Reply::PoolWrite(written),
         }
     }
-
-    /// The number that the reply carries.
-    fn number(&self) -> Option<u64>
-        ensures { result ≡ brief_number self.now }
-    {
-        match self {
-            BriefReply::AllocatePages(Ok(address)) => Some(*address),
-            BriefReply::AllocatePool(Ok(address)) => Some(*address),
-            _ => None,
-        }
-    }
 }
 
-/// The reply of the last call, if one is left. A brief one is kept beside the place of all others, so that it goes without
-/// a look at that place.
+/// The reply of the last call, if one is left. A brief reply has a place of its own, so the next call forgets it without
+/// reading the other place.
 #[derive(Drop)]
 pub(crate) struct LastReply<A: Allocator> {
     pub(crate) brief: Option<BriefReply>,
@@ -111,7 +100,7 @@ impl<A: Allocator> LastReply<A> {
         self.other = Some(reply);
     }
 
-    /// The reply, unless it is brief, and so one of a memory service.
+    /// The reply, unless it is a brief one of a memory service.
     pub(crate) fn other(&self) -> Option<&Reply<A>>
         ensures some { IfSome result (λ reply. reply_in self.now ≡ Some reply.now) }
         ensures none { IfNone result (is_of_memory_if (reply_in self.now) ≡ true) }
@@ -127,7 +116,9 @@ impl<A: Allocator> LastReply<A> {
         ensures { result ≡ option_and_then number_in (reply_in self.now) }
     {
         match &self.brief {
-            Some(brief) => brief.number(),
+            Some(BriefReply::AllocatePages(Ok(address))) => Some(*address),
+            Some(BriefReply::AllocatePool(Ok(address))) => Some(*address),
+            Some(_) => None,
             None => self.other.as_ref().and_then(number_in),
         }
     }
