@@ -7,6 +7,7 @@ use Rattle.std.proofs.lemmas.List.{length-append}
 use Rattle.std.proofs.lemmas.Bool.Decides.{eqb_tells}
 use Rattle.guid_handles.specs.declared.records.Interface.{Interface}
 use Rattle.guid_handles.specs.declared.records.LiveHandle.{LiveHandle}
+use Rattle.guid_handles.specs.declared.records.Maker.{Maker}
 use Rattle.guid_handles.specs.HandleTables.{HandleTable, carries, interface_at, is_at, is_on, numbers, value_at}
 use Rattle.guid_handles.specs.HandleChanges.{IsHandleTable, stamped}
 use Rattle.guid_handles.proofs.Filters.{filter_append, filter_inside}
@@ -53,7 +54,7 @@ stamped_stay : (ns : List ℕ) (m stamp : ℕ) (pairs : List (List ℕ × ℕ)) 
 stamped_stay ns m stamp [] f = refl
 stamped_stay ns m stamp (q ∷ qs) f = rw f (ap (λ (is : List Interface). record { handle = m; guid = q.0; value = q.1; stamp = stamp + 1 } ∷ is) (stamped_stay ns m (stamp + 1) qs f))
 
-child_beside : (ns : List ℕ) (maker : ℕ × ℕ) (pairs : List (List ℕ × ℕ)) (t : HandleTable) → AllByRecursion (λ n. n ≤ t.last_number) ns → without_handles ns (with_child maker pairs t) ≡ with_child maker pairs (without_handles ns t)
+child_beside : (ns : List ℕ) (maker : Maker) (pairs : List (List ℕ × ℕ)) (t : HandleTable) → AllByRecursion (λ n. n ≤ t.last_number) ns → without_handles ns (with_child maker pairs t) ≡ with_child maker pairs (without_handles ns t)
 child_beside ns maker pairs t h =
     let f : is_one_of ns (t.last_number + 1) ≡ false = later_stays t.last_number (t.last_number + 1) (omega arith) ns h in
     let those : filter (λ (x : LiveHandle). not (is_one_of ns x.number)) (record { number = t.last_number + 1; maker = Some maker } ∷ []) ≡ record { number = t.last_number + 1; maker = Some maker } ∷ [] = rw f refl in
@@ -65,7 +66,7 @@ child_beside ns maker pairs t h =
     )
     refl
 
-pub children_beside : (ns : List ℕ) (maker : ℕ × ℕ) (children : List (List (List ℕ × ℕ))) (t : HandleTable) → AllByRecursion (λ n. n ≤ t.last_number) ns → without_handles ns (with_children maker children t) ≡ with_children maker children (without_handles ns t)
+pub children_beside : (ns : List ℕ) (maker : Maker) (children : List (List (List ℕ × ℕ))) (t : HandleTable) → AllByRecursion (λ n. n ≤ t.last_number) ns → without_handles ns (with_children maker children t) ≡ with_children maker children (without_handles ns t)
 children_beside ns maker [] t h = refl
 children_beside ns maker (pairs ∷ children) t h =
     children_beside ns maker children (with_child maker pairs t) (all_map (λ n. n ≤ t.last_number) (λ n. n ≤ t.last_number + 1) (λ n l. omega (arith, l)) ns h)

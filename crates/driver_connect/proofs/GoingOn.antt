@@ -5,6 +5,7 @@ use Rattle.std.proofs.lemmas.Bool.{cases_Bool, le-leb, lt-leb}
 use Rattle.std.proofs.Math.Seq.{take-append_seam}
 use Rattle.guid_handles.specs.declared.records.Interface.{Interface}
 use Rattle.guid_handles.specs.declared.records.LiveHandle.{LiveHandle}
+use Rattle.guid_handles.specs.declared.records.Maker.{Maker}
 use Rattle.guid_handles.specs.HandleTables.{HandleTable, numbers}
 use Rattle.guid_handles.specs.HandleChanges.{IsHandleTable, stamped, with_handle, with_interfaces}
 use Rattle.guid_handles.specs.TableSteps.{AreOlder, taken_back_to}
@@ -49,7 +50,7 @@ stamped_later : (last n stamp : ℕ) (pairs : List (List ℕ × ℕ)) → last <
 stamped_later last n stamp [] l = tt
 stamped_later last n stamp (p ∷ ps) l = (l, stamped_later last n (stamp + 1) ps l)
 
-pub made_child : (maker : ℕ × ℕ) (pairs : List (List ℕ × ℕ)) (t : HandleTable) → HasMade t (with_child maker pairs t)
+pub made_child : (maker : Maker) (pairs : List (List ℕ × ℕ)) (t : HandleTable) → HasMade t (with_child maker pairs t)
 made_child maker pairs t = record {
   made = record { number = t.last_number + 1; maker = Some maker } ∷ [];
   installed = stamped (t.last_number + 1) t.last_stamp pairs;
@@ -62,7 +63,7 @@ made_child maker pairs t = record {
 }
 
 -- the same of the table after a child is made
-pub child_made : (maker : ℕ × ℕ) (pairs : List (List ℕ × ℕ)) (t new : HandleTable) (n : ℕ) → (n ≡ t.last_number + 1) × (new ≡ with_interfaces n pairs (with_handle (Some maker) t)) → HasMade t new
+pub child_made : (maker : Maker) (pairs : List (List ℕ × ℕ)) (t new : HandleTable) (n : ℕ) → (n ≡ t.last_number + 1) × (new ≡ with_interfaces n pairs (with_handle (Some maker) t)) → HasMade t new
 child_made maker pairs t new n h = rw (h.1, h.0) (made_child maker pairs t)
 
 pub same_made : (t new : HandleTable) → new ≡ t → HasMade t new

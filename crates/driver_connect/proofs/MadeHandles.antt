@@ -4,6 +4,7 @@ use Rattle.std.specs.List.{find, AllByRecursion}
 use Rattle.std.specs.Option.{option_and_then}
 use Rattle.std.proofs.lemmas.Bool.{cases_Bool, ne_eqb}
 use Rattle.guid_handles.specs.declared.records.LiveHandle.{LiveHandle}
+use Rattle.guid_handles.specs.declared.records.Maker.{Maker}
 use Rattle.guid_handles.specs.HandleTables.{HandleTable, has_number, maker_of, numbers}
 use Rattle.guid_handles.specs.HandleChanges.{IsHandleTable}
 use Rattle.guid_handles.specs.MadeOn.{is_made_on, is_of_controller, made_on, numbers_made_on}
@@ -19,9 +20,9 @@ use Rattle.driver_connect.proofs.PairMembers.{equal_round}
 
 -- ---- one pair
 
-of_controller : (p : Manager) (m : Option (ℕ × ℕ)) → is_maker (p ∷ []) m ≡ true → is_of_controller p.controller m ≡ true
+of_controller : (p : Manager) (m : Option Maker) → is_maker (p ∷ []) m ≡ true → is_of_controller p.controller m ≡ true
 of_controller p None h = cc
-of_controller p (Some m) h = elim (cases_Bool (m.0 == p.controller)) [
+of_controller p (Some m) h = elim (cases_Bool (m.controller == p.controller)) [
   | inl e ↦ e
   | inr e ↦ let n = rw e at h in cc
 ]
@@ -51,7 +52,7 @@ made_there t p on k e = elim (cases_Bool (is_made_by t (p ∷ []) k)) [
 
 -- ---- some pairs
 
-one_or_others : (p : Manager) (ps : List Manager) (m : Option (ℕ × ℕ)) → (is_maker (p ∷ []) m || is_maker ps m) ≡ is_maker (p ∷ ps) m
+one_or_others : (p : Manager) (ps : List Manager) (m : Option Maker) → (is_maker (p ∷ []) m || is_maker ps m) ≡ is_maker (p ∷ ps) m
 one_or_others p ps None = refl
 one_or_others p ps (Some m) = elim (cases_Bool (same_pair (maker_pair m) p)) [
   | inl e ↦ rw e refl
@@ -72,7 +73,7 @@ one_pair_more t p ps before new k e =
 pub by_nobody : (t : HandleTable) (k : ℕ) → is_made_by t [] k ≡ false
 by_nobody t k = no_maker (maker_of t k)
   where
-    no_maker : (m : Option (ℕ × ℕ)) → is_maker [] m ≡ false
+    no_maker : (m : Option Maker) → is_maker [] m ≡ false
     no_maker None = refl
     no_maker (Some m) = refl
 

@@ -6,6 +6,7 @@ use Rattle.std.proofs.lemmas.Bool.{cases_Bool}
 use Rattle.std.proofs.lemmas.Bool.Decides.{eqb_tells}
 use Rattle.guid_handles.specs.declared.records.Interface.{Interface}
 use Rattle.guid_handles.specs.declared.records.LiveHandle.{LiveHandle}
+use Rattle.guid_handles.specs.declared.records.Maker.{Maker}
 use Rattle.guid_handles.specs.HandleTables.{HandleTable, numbers, is_at, holders_of}
 use Rattle.guid_handles.specs.HandleChanges.{IsHandleTable, stamped}
 use Rattle.guid_handles.specs.Sorting.{kept_if}
@@ -30,7 +31,7 @@ pub record Makes (p q : Progress) : Type 0 where
   pub made : List LiveHandle
   pub handles : q.handles.handles ≡ p.handles.handles ++ made
   pub items : AllByRecursion (λ h. has_makers_item q.opens h ≡ true) made
-  pub kept : (m : Option (ℕ × ℕ)) → list_any (is_of_maker m) p.opens ≡ true → list_any (is_of_maker m) q.opens ≡ true
+  pub kept : (m : Option Maker) → list_any (is_of_maker m) p.opens ≡ true → list_any (is_of_maker m) q.opens ≡ true
   pub zero_free : IsZeroFree p.handles → IsZeroFree q.handles
 
 makes_same : (p : Progress) → Makes p p
@@ -48,18 +49,21 @@ makes_further p q r a b = record {
 
 -- ---- items
 
-counted_same : (m : Option (ℕ × ℕ)) (e : OpenRecord → Bool) (o : OpenRecord) → is_of_maker m (counted e o) ≡ is_of_maker m o
+abbrev by : ℕ → ℕ → Maker
+by controller agent = record { controller = controller; agent = agent }
+
+counted_same : (m : Option Maker) (e : OpenRecord → Bool) (o : OpenRecord) → is_of_maker m (counted e o) ≡ is_of_maker m o
 counted_same None e o = refl
 counted_same (Some m) e o = elim (cases_Bool (e o)) [
   | inl k ↦ rw k refl
   | inr k ↦ rw k refl
 ]
 
-all_counted : (m : Option (ℕ × ℕ)) (e : OpenRecord → Bool) (opens : List OpenRecord) → list_any (is_of_maker m) (map (counted e) opens) ≡ list_any (is_of_maker m) opens
+all_counted : (m : Option Maker) (e : OpenRecord → Bool) (opens : List OpenRecord) → list_any (is_of_maker m) (map (counted e) opens) ≡ list_any (is_of_maker m) opens
 all_counted m e [] = refl
 all_counted m e (o ∷ os) = rw (counted_same m e o) (ap (λ b. is_of_maker m o || b) (all_counted m e os))
 
-item_kept : (m : Option (ℕ × ℕ)) (n : ℕ) (guid : List ℕ) (agent : ℕ) (opens : List OpenRecord) → list_any (is_of_maker m) opens ≡ true → list_any (is_of_maker m) (with_item n guid agent n 0x10 opens) ≡ true
+item_kept : (m : Option Maker) (n : ℕ) (guid : List ℕ) (agent : ℕ) (opens : List OpenRecord) → list_any (is_of_maker m) opens ≡ true → list_any (is_of_maker m) (with_item n guid agent n 0x10 opens) ≡ true
 item_kept m n guid agent opens h = elim (cases_Bool (list_any (is_equal_item n guid agent n 0x10) opens)) [
   | inl e ↦ rw e (all_counted m (is_equal_item n guid agent n 0x10) opens ∙ h)
   | inr e ↦ elim (cases_Bool (agent == 0)) [
@@ -68,7 +72,7 @@ item_kept m n guid agent opens h = elim (cases_Bool (list_any (is_equal_item n g
   ]
 ]
 
-equal_is_makers : (n : ℕ) (guid : List ℕ) (agent : ℕ) (opens : List OpenRecord) → list_any (is_equal_item n guid agent n 0x10) opens ≡ true → list_any (is_of_maker (Some (n, agent))) opens ≡ true
+equal_is_makers : (n : ℕ) (guid : List ℕ) (agent : ℕ) (opens : List OpenRecord) → list_any (is_equal_item n guid agent n 0x10) opens ≡ true → list_any (is_of_maker (Some (by n agent))) opens ≡ true
 equal_is_makers n guid agent [] h = h
 equal_is_makers n guid agent (o ∷ os) h = elim (cases_Bool (is_of_pair n agent o && (o.attributes == 0x10))) [
   | inl e ↦ rw e refl
@@ -87,26 +91,26 @@ own_item n agent = elim (eqb_tells agent agent) [
   | inr a ↦ absurd (omega (arith, a.1))
 ]
 
-item_made : (n : ℕ) (guid : List ℕ) (agent : ℕ) (opens : List OpenRecord) → 0 < agent → list_any (is_of_maker (Some (n, agent))) (with_item n guid agent n 0x10 opens) ≡ true
+item_made : (n : ℕ) (guid : List ℕ) (agent : ℕ) (opens : List OpenRecord) → 0 < agent → list_any (is_of_maker (Some (by n agent))) (with_item n guid agent n 0x10 opens) ≡ true
 item_made n guid agent opens l = elim (cases_Bool (list_any (is_equal_item n guid agent n 0x10) opens)) [
-  | inl e ↦ rw e (all_counted (Some (n, agent)) (is_equal_item n guid agent n 0x10) opens ∙ equal_is_makers n guid agent opens e)
+  | inl e ↦ rw e (all_counted (Some (by n agent)) (is_equal_item n guid agent n 0x10) opens ∙ equal_is_makers n guid agent opens e)
   | inr e ↦ elim (eqb_tells agent 0) [
     | inl z ↦ absurd (omega (arith, z.1, l))
-    | inr z ↦ rw e (rw z.0 (any_last (is_of_maker (Some (n, agent))) opens _ (rw (own_item n agent) refl)))
+    | inr z ↦ rw e (rw z.0 (any_last (is_of_maker (Some (by n agent))) opens _ (rw (own_item n agent) refl)))
   ]
 ]
 
-items_kept : (m : Option (ℕ × ℕ)) (n agent : ℕ) (guids : List (List ℕ)) (opens : List OpenRecord) → list_any (is_of_maker m) opens ≡ true → list_any (is_of_maker m) (with_driver_items n agent guids opens) ≡ true
+items_kept : (m : Option Maker) (n agent : ℕ) (guids : List (List ℕ)) (opens : List OpenRecord) → list_any (is_of_maker m) opens ≡ true → list_any (is_of_maker m) (with_driver_items n agent guids opens) ≡ true
 items_kept m n agent [] opens h = h
 items_kept m n agent (g ∷ gs) opens h = items_kept m n agent gs (with_item n g agent n 0x10 opens) (item_kept m n g agent opens h)
 
-items_made : (n agent : ℕ) (guids : List (List ℕ)) (opens : List OpenRecord) → 0 < agent → (length guids == 0) ≡ false → list_any (is_of_maker (Some (n, agent))) (with_driver_items n agent guids opens) ≡ true
+items_made : (n agent : ℕ) (guids : List (List ℕ)) (opens : List OpenRecord) → 0 < agent → (length guids == 0) ≡ false → list_any (is_of_maker (Some (by n agent))) (with_driver_items n agent guids opens) ≡ true
 items_made n agent [] opens l h = cc
-items_made n agent (g ∷ gs) opens l h = items_kept (Some (n, agent)) n agent gs (with_item n g agent n 0x10 opens) (item_made n g agent opens l)
+items_made n agent (g ∷ gs) opens l h = items_kept (Some (by n agent)) n agent gs (with_item n g agent n 0x10 opens) (item_made n g agent opens l)
 
 -- ---- children
 
-children_made : (maker : ℕ × ℕ) (children : List (List (List ℕ × ℕ))) (t : HandleTable)
+children_made : (maker : Maker) (children : List (List (List ℕ × ℕ))) (t : HandleTable)
     → (made : List LiveHandle) × ((with_children maker children t).handles ≡ t.handles ++ made) × AllByRecursion (λ h. h.maker ≡ Some maker) made
 children_made maker [] t = ([], sym (append-nil t.handles), tt)
 children_made maker (pairs ∷ children) t =
@@ -117,7 +121,7 @@ stamped_above : (n stamp : ℕ) (pairs : List (List ℕ × ℕ)) → 0 < n → A
 stamped_above n stamp [] l = tt
 stamped_above n stamp (p ∷ ps) l = (l, stamped_above n (stamp + 1) ps l)
 
-children_above : (maker : ℕ × ℕ) (children : List (List (List ℕ × ℕ))) (t : HandleTable) → IsZeroFree t → IsZeroFree (with_children maker children t)
+children_above : (maker : Maker) (children : List (List (List ℕ × ℕ))) (t : HandleTable) → IsZeroFree t → IsZeroFree (with_children maker children t)
 children_above maker [] t h = h
 children_above maker (pairs ∷ children) t h =
     children_above maker children (with_child maker pairs t)
@@ -127,13 +131,13 @@ children_above maker (pairs ∷ children) t h =
 
 carried_makes : (rs : List Registration) (n agent : ℕ) (plan : Plan) (p : Progress) → 0 < agent → (length plan.opens == 0) ≡ false → Makes p (carried_out rs n agent plan p)
 carried_makes rs n agent plan p l e =
-    let r = children_made (n, agent) plan.children p.handles in
+    let r = children_made (by n agent) plan.children p.handles in
     record {
       made = r.0;
       handles = r.1;
-      items = all_map (λ h. h.maker ≡ Some (n, agent)) (λ h. has_makers_item (with_driver_items n agent plan.opens p.opens) h ≡ true) (λ h k. rw k (items_made n agent plan.opens p.opens l e)) r.0 r.2;
+      items = all_map (λ h. h.maker ≡ Some (by n agent)) (λ h. has_makers_item (with_driver_items n agent plan.opens p.opens) h ≡ true) (λ h k. rw k (items_made n agent plan.opens p.opens l e)) r.0 r.2;
       kept = λ m h. items_kept m n agent plan.opens p.opens h;
-      zero_free = children_above (n, agent) plan.children p.handles;
+      zero_free = children_above (by n agent) plan.children p.handles;
     }
 
 opens_some : (t : HandleTable) (protocols : List ProtocolView) (plan : Plan) → can_start t protocols plan ≡ true → (length plan.opens == 0) ≡ false

@@ -3,6 +3,7 @@ use Rattle.std.proofs.Common.{◌≡◌, ℕ, ◌≤◌, ◌||◌, true, false, 
 use Rattle.std.proofs.lemmas.Bool.{cases_Bool}
 use Rattle.std.proofs.lemmas.List.{take_all, take-append-le, take-append-drop}
 use Rattle.std.proofs.lemmas.List.Folds.{list_any-append}
+use Rattle.guid_handles.specs.declared.records.Maker.{Maker}
 use Rattle.guid_handles.specs.HandleTables.{HandleTable, maker_of}
 use Rattle.open_agents.specs.declared.items.Manager.{Manager}
 use Rattle.open_agents.specs.declared.items.OpenRecord.{OpenRecord}
@@ -17,7 +18,7 @@ AreAsked t opens set n = (n ≤ length set) × IsWithin (managers_of_made t open
 
 -- ---- two parts of a set
 
-maker-append : (a b : List Manager) (m : Option (ℕ × ℕ)) → is_maker (a ++ b) m ≡ (is_maker a m || is_maker b m)
+maker-append : (a b : List Manager) (m : Option Maker) → is_maker (a ++ b) m ≡ (is_maker a m || is_maker b m)
 maker-append a b None = refl
 maker-append a b (Some p) = list_any-append (same_pair (maker_pair p)) a b
 
@@ -29,7 +30,7 @@ manages-append t a b o = elim (cases_Bool (is_for_driver o.attributes)) [
 
 -- ---- managers that are in the set already
 
-no_maker : (m : Option (ℕ × ℕ)) → is_maker [] m ≡ false
+no_maker : (m : Option Maker) → is_maker [] m ≡ false
 no_maker None = refl
 no_maker (Some p) = refl
 

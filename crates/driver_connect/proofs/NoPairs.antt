@@ -2,6 +2,7 @@
 use Rattle.std.proofs.Common.{◌≡◌, ℕ, zero, suc, ◌+◌, ◌==◌, ◌||◌, not, Bool, true, false, List, [], ◌∷◌, length, Option, Some, None, refl, arith}
 use Rattle.std.specs.List.{filter, list_all}
 use Rattle.std.proofs.lemmas.Bool.{eqb-true}
+use Rattle.guid_handles.specs.declared.records.Maker.{Maker}
 use Rattle.guid_handles.specs.HandleTables.{HandleTable, maker_of, numbers}
 use Rattle.guid_handles.proofs.GuidOrder.{and_false}
 use Rattle.open_agents.specs.declared.items.Manager.{Manager}
@@ -14,7 +15,7 @@ use Rattle.driver_connect.specs.Stopping.{planned_stop, can_be_stopped, is_maker
 none_made : (t : HandleTable) (n : ℕ) → is_made_by t [] n ≡ false
 none_made t n = no_maker (maker_of t n)
   where
-    no_maker : (m : Option (ℕ × ℕ)) → is_maker [] m ≡ false
+    no_maker : (m : Option Maker) → is_maker [] m ≡ false
     no_maker None = refl
     no_maker (Some m) = refl
 

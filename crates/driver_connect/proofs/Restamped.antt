@@ -3,6 +3,7 @@ use Rattle.std.proofs.Common.{◌≡◌, ℕ, zero, suc, ◌+◌, ◌<◌, ◌�
 use Rattle.std.specs.List.{filter, find, list_any, AllByRecursion}
 use Rattle.std.specs.Option.{option_map}
 use Rattle.std.proofs.lemmas.Bool.{cases_Bool, ne_eqb}
+use Rattle.guid_handles.specs.declared.records.Maker.{Maker}
 use Rattle.guid_handles.specs.declared.records.Interface.{Interface}
 use Rattle.guid_handles.specs.HandleTables.{HandleTable, carries, interface_at, is_at, is_on, numbers, value_at}
 use Rattle.guid_handles.specs.HandleChanges.{IsHandleTable, restamped, stamped, with_value}
@@ -124,13 +125,13 @@ module _ (n : ℕ) (guid : List ℕ) (value s : ℕ) where
   new_other : (t : HandleTable) → Fits n guid value s t → (t.last_number + 1 == n) ≡ false
   new_other t h = ne_eqb (t.last_number + 1) n (λ e. omega (arith, e, h.known))
 
-  child_masked : (maker : ℕ × ℕ) (pairs : List (List ℕ × ℕ)) (t : HandleTable) → Fits n guid value s t → with_child maker pairs (put_at n guid value s t) ≡ put_at n guid value s (with_child maker pairs t)
+  child_masked : (maker : Maker) (pairs : List (List ℕ × ℕ)) (t : HandleTable) → Fits n guid value s t → with_child maker pairs (put_at n guid value s t) ≡ put_at n guid value s (with_child maker pairs t)
   child_masked maker pairs t h =
       ap (λ (is : List Interface). record (with_child maker pairs t) { interfaces = is })
       (sym (map_append (restamped n guid value s) t.interfaces (stamped (t.last_number + 1) t.last_stamp pairs)
       ∙ ap (λ (is : List Interface). map (restamped n guid value s) t.interfaces ++ is) (stamped_same (t.last_number + 1) t.last_stamp pairs (new_other t h))))
 
-  child_fits : (maker : ℕ × ℕ) (pairs : List (List ℕ × ℕ)) (t : HandleTable) → Fits n guid value s t → Fits n guid value s (with_child maker pairs t)
+  child_fits : (maker : Maker) (pairs : List (List ℕ × ℕ)) (t : HandleTable) → Fits n guid value s t → Fits n guid value s (with_child maker pairs t)
   child_fits maker pairs t h = record {
     known = omega (arith, h.known);
     given = omega (arith, h.given);
@@ -139,7 +140,7 @@ module _ (n : ℕ) (guid : List ℕ) (value s : ℕ) where
     may = all_append (MayHave n guid s) t.interfaces (stamped (t.last_number + 1) t.last_stamp pairs) h.may (stamped_may (t.last_number + 1) t.last_stamp pairs (new_other t h) h.given);
   }
 
-  children_masked : (maker : ℕ × ℕ) (children : List (List (List ℕ × ℕ))) (t : HandleTable) → Fits n guid value s t
+  children_masked : (maker : Maker) (children : List (List (List ℕ × ℕ))) (t : HandleTable) → Fits n guid value s t
       → (with_children maker children (put_at n guid value s t) ≡ put_at n guid value s (with_children maker children t)) × Fits n guid value s (with_children maker children t)
   children_masked maker [] t h = (refl, h)
   children_masked maker (pairs ∷ children) t h =
@@ -150,7 +151,7 @@ module _ (n : ℕ) (guid : List ℕ) (value s : ℕ) where
 
   carried_masked : (rs : List Registration) (controller agent : ℕ) (plan : Plan) (p : Progress) → Fits n guid value s p.handles → IsSame n guid value s (carried_out rs controller agent plan) p
   carried_masked rs controller agent plan p h =
-      let made = children_masked (controller, agent) plan.children p.handles h in
+      let made = children_masked (record { controller = controller; agent = agent }) plan.children p.handles h in
       (ap (λ (t : HandleTable). record (carried_out rs controller agent plan p) { handles = t }) made.0, made.1)
 
   start_masked : (c : Site) (a : Agent) (p : Progress) → Fits n guid value s p.handles → IsSame n guid value s (λ q. after_turn c q a) p × (turn c (masked n guid value s p) a ≡ turn c p a)

@@ -3,6 +3,7 @@ use Rattle.std.proofs.Common.{◌≡◌, ℕ, ◌==◌, ◌&&◌, Bool, true, fa
 use Rattle.std.specs.List.{list_any}
 use Rattle.guid_handles.specs.declared.records.Interface.{Interface}
 use Rattle.guid_handles.specs.declared.records.LiveHandle.{LiveHandle}
+use Rattle.guid_handles.specs.declared.records.Maker.{Maker}
 use Rattle.guid_handles.specs.HandleTables.{HandleTable, numbers, maker_of, same_guid}
 use Rattle.open_agents.specs.declared.items.Manager.{Manager}
 use Rattle.open_agents.specs.declared.items.OpenRecord.{OpenRecord}
@@ -16,8 +17,11 @@ use Rattle.driver_connect.specs.Connecting.{connected, first_progress}
 abbrev guid : ℕ → List ℕ
 guid n = n ∷ []
 
-abbrev live : ℕ → Option (ℕ × ℕ) → LiveHandle
+abbrev live : ℕ → Option Maker → LiveHandle
 live n maker = record { number = n; maker = maker }
+
+abbrev by : ℕ → ℕ → Maker
+by controller agent = record { controller = controller; agent = agent }
 
 abbrev on : ℕ → List ℕ → ℕ → ℕ → Interface
 on n g value stamp = record { handle = n; guid = g; value = value; stamp = stamp }
@@ -89,14 +93,14 @@ two_passes = refl
 levels : map (λ k. numbers (connected k (site drivers [] 1) [] (first_progress table [])).handles) (0 ∷ 1 ∷ 2 ∷ []) ≡ (1 ∷ 2 ∷ 3 ∷ 4 ∷ 5 ∷ []) ∷ (1 ∷ 2 ∷ 3 ∷ 4 ∷ 5 ∷ 6 ∷ []) ∷ (1 ∷ 2 ∷ 3 ∷ 4 ∷ 5 ∷ 6 ∷ 7 ∷ []) ∷ []
 levels = refl
 
-maker : maker_of (connected 1 (site drivers [] 1) [] (first_progress table [])).handles 6 ≡ Some (5, 2)
+maker : maker_of (connected 1 (site drivers [] 1) [] (first_progress table [])).handles 6 ≡ Some (by 5 2)
 maker = refl
 
 -- ---- stopping
 
 -- The driver of handle 2 made handle 5 on handle 1, and handle 6 on that.
 abbrev tree : HandleTable
-tree = record table { handles = live 1 None ∷ live 2 None ∷ live 3 None ∷ live 5 (Some (1, 2)) ∷ live 6 (Some (5, 2)) ∷ [] }
+tree = record table { handles = live 1 None ∷ live 2 None ∷ live 3 None ∷ live 5 (Some (by 1 2)) ∷ live 6 (Some (by 5 2)) ∷ [] }
 
 abbrev opened : List OpenRecord
 opened = item 1 (guid 1) 2 1 0x10 ∷ item 5 (guid 1) 2 5 0x10 ∷ item 1 (guid 2) 3 1 0x10 ∷ item 6 (guid 1) 0 0 0x2 ∷ []

@@ -3,6 +3,7 @@ use Rattle.std.proofs.Common.{◌≡◌, ◌⊎◌, ℕ, zero, suc, ◌+◌, ◌
 use Rattle.std.specs.List.{filter}
 use Rattle.std.proofs.lemmas.Bool.{cases_Bool}
 use Rattle.std.proofs.lemmas.Bool.Decides.{eqb_tells}
+use Rattle.guid_handles.specs.declared.records.Maker.{Maker}
 use Rattle.guid_handles.specs.HandleTables.{HandleTable, maker_of}
 use Rattle.guid_handles.proofs.SortedLists.{filter_shorter}
 use Rattle.open_agents.specs.declared.items.Manager.{Manager}
@@ -87,7 +88,7 @@ all_within s (p ∷ ps) u w v =
 
 -- ---- what a larger set makes
 
-maker_within : (s u : List Manager) → IsWithin s u → (m : Option (ℕ × ℕ)) → is_maker s m ≡ true → is_maker u m ≡ true
+maker_within : (s u : List Manager) → IsWithin s u → (m : Option Maker) → is_maker s m ≡ true → is_maker u m ≡ true
 maker_within s u w None h = h
 maker_within s u w (Some p) h = w (maker_pair p) h
 

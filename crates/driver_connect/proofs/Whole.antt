@@ -14,7 +14,7 @@ use Rattle.driver_connect.specs.Stopping.{PlannedStop, planned_stop, without_han
 -- a plan was carried out by its three parts
 pub carried_whole : (rs : List Registration) (n a : ℕ) (plan : Plan) (p q : Progress) (opens : List (List ℕ)) (made signaled : List (List (List ℕ × ℕ)))
     → opens ≡ plan.opens → made ≡ plan.children → signaled ≡ plan.children
-    → q.opens ≡ with_driver_items n a opens p.opens → q.handles ≡ with_children (n, a) made p.handles → q.events ≡ p.events ++ events_of_all rs signaled
+    → q.opens ≡ with_driver_items n a opens p.opens → q.handles ≡ with_children (record { controller = n; agent = a }) made p.handles → q.events ≡ p.events ++ events_of_all rs signaled
     → q ≡ carried_out rs n a plan p
 carried_whole rs n a plan p q opens made signaled e f g o h v =
     let oe = rw e at o in

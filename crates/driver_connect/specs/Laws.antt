@@ -2,6 +2,7 @@
 use Rattle.std.specs.Prelude.{◌≡◌, ℕ, ◌==◌, ◌&&◌, ◌++◌, Bool, true, false, List, [], Option, Some, None}
 use Rattle.std.specs.List.{filter, list_any, AllByRecursion}
 use Rattle.guid_handles.specs.declared.records.LiveHandle.{LiveHandle}
+use Rattle.guid_handles.specs.declared.records.Maker.{Maker}
 use Rattle.guid_handles.specs.HandleTables.{HandleTable, has_number, is_on}
 use Rattle.guid_handles.specs.HandleChanges.{IsHandleTable}
 use Rattle.guid_handles.specs.Sorting.{Ascending}
@@ -80,9 +81,9 @@ NothingCarriedOutLaw =
     → is_any_carried_out (starts_on c named p).starts ≡ false → connected levels c named p ≡ p
 
 -- an item of BY_DRIVER of a handle's maker
-abbrev pub is_of_maker : Option (ℕ × ℕ) → OpenRecord → Bool
+abbrev pub is_of_maker : Option Maker → OpenRecord → Bool
 is_of_maker None o = false
-is_of_maker (Some m) o = is_of_pair m.0 m.1 o && (o.attributes == 0x10)
+is_of_maker (Some m) o = is_of_pair m.controller m.agent o && (o.attributes == 0x10)
 
 abbrev pub has_makers_item : List OpenRecord → LiveHandle → Bool
 has_makers_item opens h = list_any (is_of_maker h.maker) opens

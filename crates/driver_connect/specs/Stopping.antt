@@ -3,6 +3,7 @@ use Rattle.std.specs.Prelude.{◌≡◌, ℕ, zero, suc, ◌+◌, ◌==◌, ◌&
 use Rattle.std.specs.List.{filter, list_any, list_all}
 use Rattle.page_ranges.specs.declared.statuses.Status.{Status}
 use Rattle.page_ranges.specs.declared.statuses.Status.TheVariants.{InvalidParameter, OutOfResources, DeviceError}
+use Rattle.guid_handles.specs.declared.records.Maker.{Maker}
 use Rattle.guid_handles.specs.HandleTables.{HandleTable, numbers, maker_of, is_live, carries}
 use Rattle.open_agents.specs.declared.items.Manager.{Manager}
 use Rattle.open_agents.specs.declared.items.OpenRecord.{OpenRecord}
@@ -28,11 +29,12 @@ with_pairs pairs (p ∷ ps) = with_pairs (with_pair pairs p) ps
 
 -- ---- the stop set
 
--- the controller and the agent by which a handle table names a maker
-abbrev pub maker_pair : ℕ × ℕ → Manager
-maker_pair m = record { controller = m.0; agent = m.1 }
+-- the pair that a handle's maker is
+abbrev pub maker_pair : Maker → Manager
+maker_pair m = record { controller = m.controller; agent = m.agent }
 
-abbrev pub is_maker : List Manager → Option (ℕ × ℕ) → Bool
+-- a maker, if there is one, is one of some pairs
+abbrev pub is_maker : List Manager → Option Maker → Bool
 is_maker pairs None = false
 is_maker pairs (Some m) = has_pair pairs (maker_pair m)
 

@@ -4,9 +4,17 @@ ghost use Rattle.driver_connect.specs.Stopping as spec;
 
 use crate::made::made_by;
 use crate::pair_set::PairSet;
-use guid_handles::Handles;
+use guid_handles::{Handles, Maker};
 use open_agents::{Manager, Opens};
 use std::alloc::{AllocError, Allocator};
+
+/// The pair that a handle's maker is.
+pub(crate) fn maker_pair(maker: Maker) -> Manager
+    ensures { result ≡ spec.maker_pair maker }
+{
+    let Maker { controller, agent } = maker;
+    Manager { controller, agent }
+}
 
 /// Whether a pair is among some.
 pub(crate) fn has_pair(pairs: &[Manager], pair: Manager) -> bool
@@ -33,8 +41,8 @@ pub(crate) fn is_made_by<A: Allocator + Copy>(
 ) -> bool
     ensures { result ≡ spec.is_made_by handles.now pairs.now handle }
 {
-    match handles.maker(handle) {
-        Some((controller, agent)) => pairs.has(Manager { controller, agent }),
+    match handles.maker_of(handle) {
+        Some(maker) => pairs.has(maker_pair(maker)),
         None => false,
     }
 }

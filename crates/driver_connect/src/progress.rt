@@ -12,7 +12,7 @@ ghost use Rattle.driver_connect.specs.Room.{HasRoom, Grows};
 use crate::table::is_free;
 use crate::view::{MAX_PAIRS, ProtocolView, StartPlan};
 use arrayvec::ArrayVec;
-use guid_handles::{Handles, MAX_HANDLES, has_guid_twice};
+use guid_handles::{Handles, MAX_HANDLES, Maker, has_guid_twice};
 use open_agents::{BY_DRIVER, Opens};
 use protocol_notify::Notify;
 use std::alloc::{AllocError, Allocator};
@@ -96,44 +96,41 @@ pub(crate) fn open_for_driver<A: Allocator + Copy>(
     Ok(())
 }
 
-/// Makes a child of a controller and an agent.
+/// Makes a child of a maker.
 fn make_child<A: Allocator + Copy>(
     handles: &mut Handles<A>,
-    controller: u64,
-    agent: u64,
+    maker: Maker,
     child: &ArrayVec<(Uuid, u64), MAX_PAIRS>,
 ) -> Result<(), AllocError>
     requires room { HasRoom handles.old }
     requires child { spec.is_child child.now.items ≡ true }
     requires limit { length handles.old.handles + 1 ≤ max_handles }
     ensures handles { OnOk result
-        (handles.new ≡ spec.with_child (controller, agent) child.now.items handles.old) }
+        (handles.new ≡ spec.with_child maker child.now.items handles.old) }
     ensures grows { OnOk result (Grows handles.old handles.new) }
     ensures count { OnOk result (length handles.new.handles ≡ length handles.old.handles + 1) }
     ensures made { HasMade handles.old handles.new }
 {
-    handles.make_child(controller, agent, child.as_slice())?;
+    handles.make_child(maker.controller, maker.agent, child.as_slice())?;
     Ok(())
 }
 
-/// Makes children of a controller and an agent, in order.
+/// Makes children of a maker, in order.
 pub(crate) fn make_children<A: Allocator + Copy>(
     handles: &mut Handles<A>,
-    controller: u64,
-    agent: u64,
+    maker: Maker,
     children: &[ArrayVec<(Uuid, u64), MAX_PAIRS>],
 ) -> Result<(), AllocError>
     requires room { HasRoom handles.old }
     requires children { list_all spec.is_child (map (λ c. c.items) children.now) ≡ true }
     requires limit { length handles.old.handles + length children.now ≤ max_handles }
     ensures handles { OnOk result
-        (handles.new ≡ spec.with_children (controller, agent)
-        (map (λ c. c.items) children.now) handles.old) }
+        (handles.new ≡ spec.with_children maker (map (λ c. c.items) children.now) handles.old) }
     ensures grows { OnOk result (Grows handles.old handles.new) }
     ensures made { HasMade handles.old handles.new }
 {
     for child in children {
-        make_child(handles, controller, agent, child)?;
+        make_child(handles, maker, child)?;
     }
     Ok(())
 }

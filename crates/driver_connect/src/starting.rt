@@ -16,7 +16,7 @@ use crate::driver::Driver;
 use crate::progress::{can_start, make_children, open_for_driver, signal_children};
 use crate::protocols::protocols_on;
 use crate::view::{ProtocolView, StartPlan, View};
-use guid_handles::{Handles, MAX_HANDLES};
+use guid_handles::{Handles, MAX_HANDLES, Maker};
 use open_agents::Opens;
 use protocol_notify::Notify;
 use std::alloc::{AllocError, Allocator};
@@ -212,8 +212,7 @@ impl<'a, A: Allocator + Copy> Connecting<'a, A> {
         open_for_driver(&mut self.opens, controller, agent, plan.opens.as_slice())?;
         make_children(
             &mut self.handles,
-            controller,
-            agent,
+            Maker { controller, agent },
             plan.children.as_slice(),
         )?;
         signal_children(&mut self.events, notify, plan.children.as_slice())

@@ -5,6 +5,7 @@ use Rattle.std.specs.List.{filter, find, slice_get, AllByRecursion}
 use Rattle.std.proofs.lemmas.Bool.{cases_Bool, ne_eqb}
 use Rattle.std.proofs.lemmas.Option.{same_Some}
 use Rattle.guid_handles.specs.declared.records.LiveHandle.{LiveHandle}
+use Rattle.guid_handles.specs.declared.records.Maker.{Maker}
 use Rattle.guid_handles.specs.Sorting.{Ascending}
 use Rattle.guid_handles.specs.HandleTables.{has_number}
 use Rattle.guid_handles.specs.Indexes.{FiledRow, Row, filed_number, filed_numbers, is_filed_at, is_row_of, lives, row_numbers, rows_in}
@@ -31,11 +32,11 @@ pushed (x ∷ xs) h c = elim (cases_Bool (is_made_on c x)) [
   | inr e ↦ rw e (pushed xs h c)
 ]
 
-made_push : (hs : List LiveHandle) (h : LiveHandle) (m : Option (ℕ × ℕ)) (old new : List BlockGroup) → h.maker ≡ m → AreMadeOn hs old → ChangesMade m (with_last h.number) old new → AreMadeOn (hs ++ h ∷ []) new
+made_push : (hs : List LiveHandle) (h : LiveHandle) (m : Option Maker) (old new : List BlockGroup) → h.maker ≡ m → AreMadeOn hs old → ChangesMade m (with_last h.number) old new → AreMadeOn (hs ++ h ∷ []) new
 made_push hs h None old new e a k c = ap (λ (bs : List BlockGroup). (block_at bs c).places) k ∙ a c ∙ append_none (numbers_made_on c hs) ∙ sym (pushed hs h c ∙ rw e refl)
 made_push hs h (Some m) old new e a k c =
     ap (λ (b : Block). b.places) (k c)
-    ∙ elim (cases_Bool (m.0 == c)) [
+    ∙ elim (cases_Bool (m.controller == c)) [
       | inl t ↦ rw t (ap (λ ks. ks ++ h.number ∷ []) (a c) ∙ sym (pushed hs h c ∙ rw e (rw t refl)))
       | inr f ↦ rw f (a c ∙ append_none (numbers_made_on c hs) ∙ sym (pushed hs h c ∙ rw e (rw f refl)))
     ]
@@ -79,12 +80,12 @@ left_out n (x ∷ xs) h c a e = elim (cases_Bool (x.number == n)) [
       ]
 ]
 
-made_remove : (n : ℕ) (hs : List LiveHandle) (h : LiveHandle) (m : Option (ℕ × ℕ)) (old new : List BlockGroup) → h.maker ≡ m → Ascending (λ a b. a < b) (map (λ x. x.number) hs) → find (has_number n) hs ≡ Some h → AreMadeOn hs old
+made_remove : (n : ℕ) (hs : List LiveHandle) (h : LiveHandle) (m : Option Maker) (old new : List BlockGroup) → h.maker ≡ m → Ascending (λ a b. a < b) (map (λ x. x.number) hs) → find (has_number n) hs ≡ Some h → AreMadeOn hs old
     → ChangesMade m (without_place n) old new → AreMadeOn (filter (λ x. not (has_number n x)) hs) new
 made_remove n hs h None old new e s g a k c = ap (λ (bs : List BlockGroup). (block_at bs c).places) k ∙ a c ∙ sym (left_out n hs h c s g ∙ rw e refl)
 made_remove n hs h (Some m) old new e s g a k c =
     ap (λ (b : Block). b.places) (k c)
-    ∙ elim (cases_Bool (m.0 == c)) [
+    ∙ elim (cases_Bool (m.controller == c)) [
       | inl t ↦ rw t (ap (filter (λ x. not (x == n))) (a c) ∙ sym (left_out n hs h c s g ∙ rw e (rw t refl)))
       | inr f ↦ rw f (a c ∙ sym (left_out n hs h c s g ∙ rw e (rw f refl)))
     ]

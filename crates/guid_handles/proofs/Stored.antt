@@ -9,6 +9,7 @@ use Rattle.std.proofs.lemmas.List.Elements.{same_from_all_zip}
 use Rattle.slab.specs.Slab.{IsSlotClone}
 use Rattle.guid_handles.specs.declared.records.Interface.{Interface}
 use Rattle.guid_handles.specs.declared.records.LiveHandle.{LiveHandle}
+use Rattle.guid_handles.specs.declared.records.Maker.{Maker}
 use Rattle.guid_handles.specs.declared.records.Record.{Record}
 use Rattle.guid_handles.specs.HandleTables.{HandleTable, numbers, same_guid, is_on, is_at, is_live, has_number, carries, holders_of}
 use Rattle.guid_handles.specs.HandleChanges.{IsHandleTable, max_handles, is_taken, has_guid_twice, stamped, restamped, with_interfaces, with_handle, without_handle}
@@ -105,7 +106,7 @@ with_handle_on_live : (n : ℕ) (ns : List ℕ) (is : List Interface) → AreOn 
 with_handle_on_live n ns is a =
     all_map (λ i. list_any (λ m. nat_eq m i.handle) ns ≡ true) (λ i. list_any (λ m. nat_eq m i.handle) (ns ++ n ∷ []) ≡ true) (λ i h. any_push (λ m. nat_eq m i.handle) ns n h) is a
 
-table_with_handle : (t : HandleTable) (maker : Option (ℕ × ℕ)) → IsTable t → length t.handles < max_handles → IsTable (with_handle maker t)
+table_with_handle : (t : HandleTable) (maker : Option Maker) → IsTable t → length t.handles < max_handles → IsTable (with_handle maker t)
 table_with_handle t maker s room =
     let e : numbers (with_handle maker t) ≡ numbers t ++ (t.last_number + 1) ∷ [] = map_append (λ (h : LiveHandle). h.number) t.handles (record { number = t.last_number + 1; maker = maker } ∷ []) in
     record {
@@ -123,7 +124,7 @@ table_with_handle t maker s room =
     }
 
 -- the new handle is live
-pub new_is_live : (t : HandleTable) (maker : Option (ℕ × ℕ)) → is_live (with_handle maker t) (t.last_number + 1) ≡ true
+pub new_is_live : (t : HandleTable) (maker : Option Maker) → is_live (with_handle maker t) (t.last_number + 1) ≡ true
 new_is_live t maker = any_found (has_number (t.last_number + 1)) (t.handles ++ record { number = t.last_number + 1; maker = maker } ∷ [])
     ∙ any_last (has_number (t.last_number + 1)) t.handles (record { number = t.last_number + 1; maker = maker }) (eq-eqb (t.last_number + 1) (t.last_number + 1) refl)
 
@@ -200,7 +201,7 @@ none_is_on t h =
     let l : (0 < i.handle) × (i.handle ≤ t.last_number) = any_member i.handle (numbers t) (λ m. (0 < m) × (m ≤ t.last_number)) h.given k in
     ne_eqb i.handle (t.last_number + 1) (λ e. omega (arith, l.1, e))) t.interfaces h.on_live)
 
-pub lower_numbers : (t : HandleTable) (maker : Option (ℕ × ℕ)) → IsHandleTable t → AllByRecursion (λ n. n < t.last_number + 1) (filter (λ n. not (n == t.last_number + 1)) (numbers (with_handle maker t)))
+pub lower_numbers : (t : HandleTable) (maker : Option Maker) → IsHandleTable t → AllByRecursion (λ n. n < t.last_number + 1) (filter (λ n. not (n == t.last_number + 1)) (numbers (with_handle maker t)))
 lower_numbers t maker h =
     let own : (t.last_number + 1 == t.last_number + 1) ≡ true = eq-eqb (t.last_number + 1) (t.last_number + 1) refl in
     rw (map_append (λ (x : LiveHandle). x.number) t.handles (record { number = t.last_number + 1; maker = maker } ∷ []), filter_append (λ n. not (n == t.last_number + 1)) (numbers t) ((t.last_number + 1) ∷ []))
@@ -208,7 +209,7 @@ lower_numbers t maker h =
     (all_filter (λ n. n < t.last_number + 1) (λ n. not (n == t.last_number + 1)) (numbers t)
     (all_map (λ m. (0 < m) × (m ≤ t.last_number)) (λ m. m < t.last_number + 1) (λ m k. omega (arith, k.1)) (numbers t) h.given))))
 
-pub unmade_again : (t : HandleTable) (maker : Option (ℕ × ℕ)) → IsHandleTable t → record (without_handle (t.last_number + 1) (with_handle maker t)) { last_number = t.last_number + 1 - 1 } ≡ t
+pub unmade_again : (t : HandleTable) (maker : Option Maker) → IsHandleTable t → record (without_handle (t.last_number + 1) (with_handle maker t)) { last_number = t.last_number + 1 - 1 } ≡ t
 unmade_again t maker h =
     let own : (t.last_number + 1 == t.last_number + 1) ≡ true = eq-eqb (t.last_number + 1) (t.last_number + 1) refl in
     let handles : filter (λ l. not (has_number (t.last_number + 1) l)) (with_handle maker t).handles ≡ t.handles =
@@ -574,7 +575,7 @@ module _ (rows : List Row) (slots : List (Option Record)) (groups : List Group) 
   live_row n l = sym (ap is_some (find_lives n rows) ∙ some_map (λ r. r.live) (find (is_row_of n) rows)) ∙ l
 
   -- a handle comes
-  pub stored_handle : (maker : Option (ℕ × ℕ)) → length (lives rows) < max_handles
+  pub stored_handle : (maker : Option Maker) → length (lives rows) < max_handles
       → (table_of (rows ++ record { live = record { number = number + 1; maker = maker }; keys = [] } ∷ []) slots (number + 1) stamp ≡ with_handle maker (table_of rows slots number stamp))
       × IsStore (rows ++ record { live = record { number = number + 1; maker = maker }; keys = [] } ∷ []) slots groups (number + 1) stamp
   stored_handle maker room =

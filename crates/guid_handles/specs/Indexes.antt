@@ -7,6 +7,7 @@ use Rattle.std.specs.Ordering.{nat_cmp, is_lt}
 use Rattle.std.specs.Cmp.Lexicographic.{slice_cmp}
 use Rattle.guid_handles.specs.declared.records.Interface.{Interface}
 use Rattle.guid_handles.specs.declared.records.LiveHandle.{LiveHandle}
+use Rattle.guid_handles.specs.declared.records.Maker.{Maker}
 use Rattle.guid_handles.specs.declared.records.Turn.{Turn}
 use Rattle.guid_handles.specs.HandleTables.{same_guid, has_number, is_at}
 use Rattle.guid_handles.specs.Sorting.{Ascending, place, kept_if}
@@ -14,9 +15,9 @@ use Rattle.guid_handles.specs.Sorting.{Ascending, place, kept_if}
 -- ---- by handle
 
 -- a live handle of a number, with its maker if a driver made it
-abbrev pub live_handle : ℕ → Bool → ℕ → ℕ → LiveHandle
-live_handle number is_made controller agent =
-    record { number = number; maker = cond is_made (Some (controller, agent)) None }
+abbrev pub live_handle : ℕ → Bool → Maker → LiveHandle
+live_handle number is_made maker =
+    record { number = number; maker = cond is_made (Some maker) None }
 
 -- a live handle, and the keys of the interfaces on it in order of installation
 pub record Row : Type 0 where

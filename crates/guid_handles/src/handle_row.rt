@@ -4,7 +4,7 @@ ghost use Rattle.std.specs.List.{filter};
 ghost use Rattle.guid_handles.specs.Indexes.{is_filed_of};
 
 use crate::handle_keys::HandleKeys;
-use crate::records::LiveHandle;
+use crate::records::{LiveHandle, Maker};
 use std::alloc::{AllocError, Allocator};
 use std::marker::Model;
 
@@ -14,11 +14,10 @@ use std::marker::Model;
 pub(crate) struct HandleRow<A: Allocator> {
     number: u64,
     gone: bool,
-    // Whether a driver made it, with this controller and as this agent.
+    // Whether it has a maker. Where it has none, `maker` says nothing.
     is_made: bool,
     keys: HandleKeys<A>,
-    controller: u64,
-    agent: u64,
+    maker: Maker,
 }
 
 impl<A: Allocator> Model for HandleRow<A> {
@@ -27,7 +26,7 @@ impl<A: Allocator> Model for HandleRow<A> {
     ghost Value = { FiledRow };
 
     ghost view = { λ r. record {
-      row = record { live = live_handle r.number r.is_made r.controller r.agent; keys = r.keys };
+      row = record { live = live_handle r.number r.is_made r.maker; keys = r.keys };
       gone = r.gone;
     } };
 }
@@ -41,14 +40,15 @@ impl<A: Allocator + Copy> HandleRow<A> {
         }) }
     {
         let keys = HandleKeys::new(alloc)?;
-        let (controller, agent) = live.maker.unwrap_or((0, 0));
         Ok(HandleRow {
             number: live.number,
             gone: false,
             is_made: live.maker.is_some(),
             keys,
-            controller,
-            agent,
+            maker: live.maker.unwrap_or(Maker {
+                controller: 0,
+                agent: 0,
+            }),
         })
     }
 
@@ -62,8 +62,7 @@ impl<A: Allocator + Copy> HandleRow<A> {
             gone: self.gone,
             is_made: self.is_made,
             keys,
-            controller: self.controller,
-            agent: self.agent,
+            maker: self.maker,
         })
     }
 
@@ -73,11 +72,7 @@ impl<A: Allocator + Copy> HandleRow<A> {
     {
         LiveHandle {
             number: self.number,
-            maker: if self.is_made {
-                Some((self.controller, self.agent))
-            } else {
-                None
-            },
+            maker: if self.is_made { Some(self.maker) } else { None },
         }
     }
 

@@ -11,7 +11,7 @@ ghost use Rattle.guid_handles.specs.TableSteps.{AreOthersLower, AreOthersOlder, 
 ghost use Rattle.guid_handles.specs.Stores.{AgreeOnKeys};
 
 use crate::groups::Groups;
-use crate::records::{Interface, LiveHandle, Record};
+use crate::records::{Interface, LiveHandle, Maker, Record};
 use crate::room::make_slot;
 use crate::rows::Rows;
 use crate::searches::{find_key, interface_at, nth_key, write_guids};
@@ -196,11 +196,18 @@ impl<A: Allocator + Copy> Handles<A> {
         self.rows.find(handle).is_some()
     }
 
-    /// The controller and the agent of the driver that made a handle as a child.
-    pub fn maker(&self, handle: u64) -> Option<(u64, u64)>
+    /// The maker of a handle, if it is live and has one.
+    pub fn maker_of(&self, handle: u64) -> Option<Maker>
         ensures { result ≡ maker_of self.now handle }
     {
         self.rows.find(handle).and_then(|h| h.maker)
+    }
+
+    /// The controller and the agent of the maker of a handle, if it is live and has one.
+    pub fn maker(&self, handle: u64) -> Option<(u64, u64)>
+        ensures { result ≡ option_map (λ m. (m.controller, m.agent)) (maker_of self.now handle) }
+    {
+        self.maker_of(handle).map(|m| (m.controller, m.agent))
     }
 
     /// The numbers of the handles that drivers made on a controller, ascending.
@@ -437,7 +444,7 @@ impl<A: Allocator + Copy> Handles<A> {
     }
 
     /// Makes a handle without interfaces, and returns its number.
-    fn make_bare(&mut self, maker: Option<(u64, u64)>) -> Result<u64, AllocError>
+    fn make_bare(&mut self, maker: Option<Maker>) -> Result<u64, AllocError>
         requires room { length self.old.handles < max_handles }
         requires numbers { self.old.last_number < 2 ^ 62 }
         ensures ok { IfOk result (λ n. MakesHandle maker self.old n self.new) }
@@ -464,7 +471,7 @@ impl<A: Allocator + Copy> Handles<A> {
     /// Installs interfaces on a new handle.
     fn install_on_new(
         &mut self,
-        maker: Option<(u64, u64)>,
+        maker: Option<Maker>,
         pairs: &[(Uuid, u64)],
     ) -> Result<u64, AllocError>
         requires room { length self.old.handles < max_handles }
@@ -551,10 +558,11 @@ impl<A: Allocator + Copy> Handles<A> {
         requires numbers { self.old.last_number < 2 ^ 62 }
         requires stamps { self.old.last_stamp < 2 ^ 62 }
         ensures ok { IfOk result (λ n.
-            MakesHandleWith (Some (controller, agent)) pairs.now self.old n self.new) }
+            MakesHandleWith (Some (record { controller = controller; agent = agent })) pairs.now
+            self.old n self.new) }
         ensures err { OnErr result (self.new ≡ self.old) }
     {
-        self.install_on_new(Some((controller, agent)), pairs)
+        self.install_on_new(Some(Maker { controller, agent }), pairs)
     }
 
     /// Removes an interface, and leaves its handle. Returns whether others are left on it.

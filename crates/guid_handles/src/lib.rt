@@ -23,4 +23,4 @@ pub use blocks::Blocks;
 pub use guids::is_same_guid;
 pub use handles::{Handles, MAX_HANDLES, MAX_INSTALLED, has_guid_twice};
 pub use places::add_place;
-pub use records::{Interface, LiveHandle};
+pub use records::{Interface, LiveHandle, Maker};

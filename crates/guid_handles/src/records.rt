@@ -1,12 +1,19 @@
 //! What the handle table lists.
 use uuid::Uuid;
 
+/// The maker of a handle: a driver that was started on a controller and made the handle as a child.
+#[derive(Clone, Copy)]
+pub struct Maker {
+    pub controller: u64,
+    /// The driver's own handle.
+    pub agent: u64,
+}
+
 /// A live handle.
 #[derive(Clone, Copy)]
 pub struct LiveHandle {
     pub number: u64,
-    /// The controller and the agent of the driver that made it as a child.
-    pub maker: Option<(u64, u64)>,
+    pub maker: Option<Maker>,
 }
 
 /// A protocol interface on a handle.

@@ -172,7 +172,7 @@ fn note_made<A: Allocator + Copy>(made: &mut Blocks<A>, live: LiveHandle) -> Res
     ensures err { OnErr result (made.new ≡ made.old) }
 {
     match live.maker {
-        Some((controller, _)) => made.push(controller, live.number as usize),
+        Some(maker) => made.push(maker.controller, live.number as usize),
         None => Ok(()),
     }
 }
@@ -182,8 +182,8 @@ fn forget_made<A: Allocator + Copy>(made: &mut Blocks<A>, live: LiveHandle)
     requires { (c : ℕ) → Ascending (λ a b. a < b) (block_at made.old c).places }
     ensures { ChangesMade live.maker (without_place live.number) made.old made.new }
 {
-    if let Some((controller, _)) = live.maker {
-        made.remove_ascending(controller, live.number as usize);
+    if let Some(maker) = live.maker {
+        made.remove_ascending(maker.controller, live.number as usize);
     }
 }
 

@@ -81,10 +81,10 @@ carried_comes : (rs : List Registration) (n agent : ℕ) (plan : Plan) (p : Prog
     → can_start p.handles (protocols_on p.handles p.opens n) plan ≡ true → Comes p (carried_out rs n agent plan p)
 carried_comes rs n agent plan p s l m h =
     let k = sound_plan p.handles (protocols_on p.handles p.opens n) plan h in
-    let live : (i : ℕ) → is_live p.handles i ≡ true → is_live (carried_out rs n agent plan p).handles i ≡ true = children_live (n, agent) plan.children p.handles in
+    let live : (i : ℕ) → is_live p.handles i ≡ true → is_live (carried_out rs n agent plan p).handles i ≡ true = children_live (record { controller = n; agent = agent }) plan.children p.handles in
     record {
       proper = record {
-        table = children_proper (n, agent) plan.children p.handles s.table k.children k.room;
+        table = children_proper (record { controller = n; agent = agent }) plan.children p.handles s.table k.children k.room;
         names = items_named (carried_out rs n agent plan p).handles n agent plan.opens p.opens (live n l) (live agent m) (all_named p.handles (carried_out rs n agent plan p).handles p.opens live s.names);
         holders = items_apart n agent plan.opens p.opens (record { free = planned_unheld p n plan h; once = k.once }) s.holders;
       };

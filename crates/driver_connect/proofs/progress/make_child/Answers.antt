@@ -6,4 +6,4 @@ returns-in_err-make_child-clause-made g c = same_made _ _ c.in_err-make_child.en
 
 pub returns-clause-made : goal.returns-clause-made
 returns-clause-made g c =
-    child_made (c.args.controller, c.args.agent) c.args.child.now.items _ _ _ (rw c.as_slice.ensures.value at c.in_ok-make_child.ensures.ok)
+    child_made c.args.maker c.args.child.now.items _ _ _ (rw c.as_slice.ensures.value at c.in_ok-make_child.ensures.ok)

@@ -8,8 +8,8 @@ use Rattle.driver_connect.proofs.progress.make_children.Given as goal
 
 abbrev pub invariant-loop-child : goal.invariant-loop-child
 invariant-loop-child g l = record {
-  handles : with_children (l.controller, l.agent) (map (λ c. c.items) (drop l.child-index l.children)) l.handles
-      ≡ with_children (l.controller, l.agent) (map (λ c. c.items) l.children) l.fn.handles;
+  handles : with_children l.maker (map (λ c. c.items) (drop l.child-index l.children)) l.handles
+      ≡ with_children l.maker (map (λ c. c.items) l.children) l.fn.handles;
   grows : Grows l.fn.handles l.handles;
   room : HasRoom l.handles;
   children : list_all is_child (map (λ c. c.items) (drop l.child-index l.children)) ≡ true;

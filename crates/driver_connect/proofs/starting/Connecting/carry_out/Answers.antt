@@ -32,5 +32,5 @@ returns-clause-progress g c =
     c.as_slice.ensures.value (ap (map (λ c. c.items)) c.as_slice-2.ensures.value) (ap (map (λ c. c.items)) c.as_slice-3.ensures.value)
     c.in_ok-open_for_driver.ensures.items
     (ap (without_handles c.self.inside.leaving.now) c.in_ok-make_children.ensures.handles
-    ∙ children_beside c.self.inside.leaving.now (c.args.controller, c.args.agent) (map (λ c. c.items) c.as_slice-2.result.now) c.self.inside.handles c.self.invariant.given) e)
+    ∙ children_beside c.self.inside.leaving.now (record { controller = c.args.controller; agent = c.args.agent }) (map (λ c. c.items) c.as_slice-2.result.now) c.self.inside.handles c.self.invariant.given) e)
     c.signal_children.ensures)
