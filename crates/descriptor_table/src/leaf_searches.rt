@@ -89,6 +89,9 @@ pub(crate) fn count_leaves_by<A: Allocator + Copy>(leaves: &[Leaf<A>], page: u64
     ensures by { AllWithin (λ l. first_page l ≤ page) leaves.now 0 result }
     ensures above { AllWithin (λ l. page < first_page l) leaves.now result (length leaves.now) }
 {
+    if leaves.len() == 1 {
+        return if page < leaves[0].first() { 0 } else { 1 };
+    }
     leaves.partition_point(
         |leaf: &Leaf<A>| -> bool
             ensures { result ≡ nat_le (first_page leaf.now) page }
