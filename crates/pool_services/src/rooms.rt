@@ -30,7 +30,7 @@ fn class_of(mtype: MemoryType) -> usize
 fn serves(room: &Room, mtype: MemoryType, cells: usize) -> bool
     ensures { result ≡ serves mtype cells room.now }
 {
-    room.mtype == mtype && cells <= room.longest as usize
+    (room.mtype == mtype) & (cells <= room.longest as usize)
 }
 
 /// The first room that serves.

@@ -116,13 +116,13 @@ around marks ls rs at h e low high =
           (s.0, s.1 ∙ ap (marked (at + 1)) (sym (drop_all (at + 1) marks (omega arith))))
     ]
 
-pub mark_set : (marks ls rs : List ℕ) (at : ℕ) → marked 0 marks ≡ ls ++ rs → AllByRecursion (λ c. c < at) ls → AllByRecursion (λ c. at + 1 ≤ c) rs → marked 0 (put (extended marks at) at (1 ∷ [])) ≡ ls ++ at ∷ rs
-mark_set marks ls rs at e low high =
-    let n : at ≤ length (extended marks at) = extended-length marks at in
-    let s = around (extended marks at) ls rs at n (extended-marked marks at ∙ e) low high in
-    marked-put (extended marks at) at 1 n
-    ∙ ap (λ (cs : List ℕ). marked 0 (take at (extended marks at)) ++ cs) (marked-one at 1 (drop (at + 1) (extended marks at)) (λ z. cc))
-    ∙ ap (λ (cs : List ℕ). cs ++ at ∷ marked (at + 1) (drop (at + 1) (extended marks at))) (sym s.0)
+pub mark_set : (marks ls rs : List ℕ) (at end : ℕ) → at ≤ end → marked 0 marks ≡ ls ++ rs → AllByRecursion (λ c. c < at) ls → AllByRecursion (λ c. at + 1 ≤ c) rs → marked 0 (put (extended marks end) at (1 ∷ [])) ≡ ls ++ at ∷ rs
+mark_set marks ls rs at end l e low high =
+    let n : at ≤ length (extended marks end) = omega (arith, extended-length marks end) in
+    let s = around (extended marks end) ls rs at n (extended-marked marks end ∙ e) low high in
+    marked-put (extended marks end) at 1 n
+    ∙ ap (λ (cs : List ℕ). marked 0 (take at (extended marks end)) ++ cs) (marked-one at 1 (drop (at + 1) (extended marks end)) (λ z. cc))
+    ∙ ap (λ (cs : List ℕ). cs ++ at ∷ marked (at + 1) (drop (at + 1) (extended marks end))) (sym s.0)
     ∙ ap (λ (cs : List ℕ). ls ++ at ∷ cs) (sym s.1)
 
 -- ---- a mark is taken away

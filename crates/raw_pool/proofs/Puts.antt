@@ -84,14 +84,6 @@ put-over bytes at byte h =
     ∙ ap (λ (k : ℕ). take at bytes ++ byte ∷ drop k bytes) (let one : suc at ≡ at + 1 = omega arith in one)
     ∙ sym (append_assoc (take at bytes) (byte ∷ []) (drop (at + 1) bytes))
 
-pub put-end : (bytes : List ℕ) (at byte : ℕ) → length bytes ≡ at → bytes ++ byte ∷ [] ≡ put bytes at (byte ∷ [])
-unfolding put
-put-end bytes at byte h =
-    let e : drop (at + 1) bytes ≡ [] = drop_all (at + 1) bytes (omega arith) in
-    ap (λ (xs : List ℕ). xs ++ byte ∷ []) (sym (take_all at bytes (omega arith)))
-    ∙ sym (append-nil (take at bytes ++ byte ∷ []))
-    ∙ ap (λ (xs : List ℕ). take at bytes ++ byte ∷ [] ++ xs) (sym e)
-
 -- ---- words
 
 pub word-same : (old new : List ℕ) (at : ℕ) → part new at 8 ≡ part old at 8 → word new at ≡ word old at

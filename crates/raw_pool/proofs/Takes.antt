@@ -153,10 +153,10 @@ pub record TakenAt (old new marks marks' : List ℕ) (cells head' at size : ℕ)
   pub laid : IsLaidOut new marks' cells head'
   pub blocks : blocks_in new marks' ≡ with_block (new_block at size) (blocks_in old marks)
 
-pub taken_at : (bytes marks : Bytes) (new : List ℕ) (cells head' head last at size need rest : ℕ) → IsStore bytes marks cells head → (c : Scan (λ (r : FreeRun). r.cells < need) bytes.set cells head (runs_of bytes marks cells) last at) → at < cells →
+pub taken_at : (bytes marks : Bytes) (new : List ℕ) (cells head' head last at size need rest end : ℕ) → IsStore bytes marks cells head → (c : Scan (λ (r : FreeRun). r.cells < need) bytes.set cells head (runs_of bytes marks cells) last at) → at < cells → at ≤ end →
     need ≡ cells_for size → need ≤ word bytes.set (32 * at) → Written bytes.set new cells head' head (marked 0 marks.set) last at size need rest →
-    TakenAt bytes.set new marks.set (put (extended marks.set at) at (1 ∷ [])) cells head' at size
-taken_at bytes marks new cells head' head last at size need rest s c l n f w =
+    TakenAt bytes.set new marks.set (put (extended marks.set end) at (1 ∷ [])) cells head' at size
+taken_at bytes marks new cells head' head last at size need rest end s c l le n f w =
     let old : List ℕ = bytes.set in
     let k : ℕ = word old (32 * at) in
     let q : Fit old cells head (marked 0 marks.set) last at c.before c.after = fit (λ (r : FreeRun). r.cells < need) bytes marks cells head last at s c l in
@@ -165,7 +165,7 @@ taken_at bytes marks new cells head' head last at size need rest s c l n f w =
     let rs : List ℕ = q.between.right in
     let e : marked 0 marks.set ≡ ls ++ rs = q.between.is in
     let b : behind old 0 ls ≡ at = sym q.between.first ∙ sym q.first in
-    let end : next_start cells rs ≡ at + k = sym q.between.end ∙ omega (arith, q.first, q.cells_is) in
+    let stop : next_start cells rs ≡ at + k = sym q.between.end ∙ omega (arith, q.first, q.cells_is) in
     let same : AreSame old new (ls ++ rs) = subst (AreSame old new) e w.same in
     let sl : AreSame old new ls = same-left old new ls rs same in
     let sr : AreSame old new rs = same-right old new ls rs same in
@@ -177,7 +177,7 @@ taken_at bytes marks new cells head' head last at size need rest s c l n f w =
     let whole : AreApart new cells 0 (ls ++ at ∷ rs) = apart-join new cells 0 ls rs (at ∷ rs) a' (omega arith, omega (arith, w.set), tail) in
     let low : AllByRecursion (λ x. x < at) ls = all-starts-low old cells 0 at ls rs a (omega arith) in
     let high : AllByRecursion (λ x. at + 1 ≤ x) rs = all-starts-high old cells (behind old 0 ls) (at + 1) rs (apart-right old cells 0 ls rs a) (omega arith) in
-    let m : marked 0 (put (extended marks.set at) at (1 ∷ [])) ≡ ls ++ at ∷ rs = mark_set marks.set ls rs at e low high in
+    let m : marked 0 (put (extended marks.set end) at (1 ∷ [])) ≡ ls ++ at ∷ rs = mark_set marks.set ls rs at end le e low high in
     let runs : free_runs new cells 0 (ls ++ at ∷ rs) ≡ c.before ++ (gap (at + need) (at + k) ++ q.rest) =
     free_runs-append new cells 0 ls (at ∷ rs)
     ∙ ap (λ (j : ℕ). gaps new 0 ls ++ free_runs new cells j (at ∷ rs)) b'
@@ -187,7 +187,7 @@ taken_at bytes marks new cells head' head last at size need rest s c l n f w =
     ∙ ap (λ (xs : List FreeRun). xs ++ free_runs new cells (at + cells_in new at) rs) (gap-none at at (omega arith))
     ∙ ap (λ (j : ℕ). free_runs new cells (at + j) rs) n'
     ∙ free_runs-first new cells (at + need) rs
-    ∙ ap (λ (j : ℕ). gap (at + need) j ++ beyond new cells rs) end
+    ∙ ap (λ (j : ℕ). gap (at + need) j ++ beyond new cells rs) stop
     ∙ ap (λ (xs : List FreeRun). gap (at + need) (at + k) ++ xs) (beyond-same old new rs cells sr ∙ sym q.between.after_is)) in
     let lows : last < cells → last < at = λ h. (lower old cells (marked 0 marks.set) last at q.rising.middle cells c.before p q.rising.left (omega (arith, q.rising.right.0, q.first)) h).below in
     let linked : AreLinked new cells head' head' (c.before ++ (gap (at + need) (at + k) ++ q.rest)) =
@@ -209,19 +209,19 @@ taken_at bytes marks new cells head' head last at size need rest s c l n f w =
     }
 
 -- the store once all of it is written
-pub placed : (bytes marks two three four marks' : Bytes) (cells head cells2 head2 head3 last at size need rest : ℕ) → IsStore bytes marks cells head → Scan (λ (r : FreeRun). r.cells < need) bytes.set cells head (runs_of bytes marks cells) last at → at < cells →
+pub placed : (bytes marks two three four marks' : Bytes) (cells head cells2 head2 head3 last at size need rest end : ℕ) → IsStore bytes marks cells head → Scan (λ (r : FreeRun). r.cells < need) bytes.set cells head (runs_of bytes marks cells) last at → at < cells → at ≤ end →
     need ≡ cells_for size → need ≤ word bytes.set (32 * at) → size < 2 ^ 64 → rest < 2 ^ 64 → IsCut bytes.set two.set cells head at need rest → two.room ≡ bytes.room → cells2 ≡ cells → head2 ≡ head →
     three ≡ record { set = cond (last == cells2) two.set (put two.set (32 * last + 8) (little_bytes 8 rest)); room = two.room } → head3 ≡ cond (last == cells2) rest head2 →
-    four ≡ record { set = put three.set (32 * at) (little_bytes 8 size); room = three.room } → marks' ≡ record { set = put (extended marks.set at) at (1 ∷ []); room = marks.room } →
+    four ≡ record { set = put three.set (32 * at) (little_bytes 8 size); room = three.room } → marks' ≡ record { set = put (extended marks.set end) at (1 ∷ []); room = marks.room } →
     (pool_of four marks' cells ≡ taken (pool_of bytes marks cells) size (Some at)) × IsStore four marks' cells head3
-placed bytes marks two three four marks' cells head cells2 head2 head3 last at size need rest s c l n f small next cut r e2 h2 e3 h3 e4 em =
+placed bytes marks two three four marks' cells head cells2 head2 head3 last at size need rest end s c l le n f small next cut r e2 h2 e3 h3 e4 em =
     let q : Fit bytes.set cells head (marked 0 marks.set) last at c.before c.after = fit (λ (r : FreeRun). r.cells < need) bytes marks cells head last at s c l in
     let p = passed bytes.set cells head (marked 0 marks.set) c.before c.after last s.laid.apart c.is c.path in
     let w : Written bytes.set (put (cond (last == cells) two.set (put two.set (32 * last + 8) (little_bytes 8 rest))) (32 * at) (little_bytes 8 size)) cells (cond (last == cells) rest head) head (marked 0 marks.set) last at size need rest =
     written bytes.set two.set cells head (marked 0 marks.set) last at size need rest (last_within bytes.set cells (marked 0 marks.set) last c.before p)
     (λ h. lower bytes.set cells (marked 0 marks.set) last at q.rising.middle cells c.before p q.rising.left (omega (arith, q.rising.right.0, q.first)) h) q.clear n f small next cut in
     let new : List ℕ = put (cond (last == cells) two.set (put two.set (32 * last + 8) (little_bytes 8 rest))) (32 * at) (little_bytes 8 size) in
-    let t : TakenAt bytes.set new marks.set (put (extended marks.set at) at (1 ∷ [])) cells (cond (last == cells) rest head) at size = taken_at bytes marks new cells (cond (last == cells) rest head) head last at size need rest s c l n f w in
+    let t : TakenAt bytes.set new marks.set (put (extended marks.set end) at (1 ∷ [])) cells (cond (last == cells) rest head) at size = taken_at bytes marks new cells (cond (last == cells) rest head) head last at size need rest end s c l le n f w in
     let g3 : three ≡ record { set = cond (last == cells) two.set (put two.set (32 * last + 8) (little_bytes 8 rest)); room = two.room } =
     e3 ∙ ap (λ (k : ℕ). record { set = cond (last == k) two.set (put two.set (32 * last + 8) (little_bytes 8 rest)); room = two.room }) e2 in
     let g4 : four ≡ record { set = new; room = two.room } = e4 ∙ ap (λ (b : Bytes). record { set = put b.set (32 * at) (little_bytes 8 size); room = b.room }) g3 in

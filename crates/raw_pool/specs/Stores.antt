@@ -1,5 +1,5 @@
 -- What a store represents: a region, how many cells it has, and the head of its list of free runs.
-use Rattle.std.specs.Prelude.{◌≡◌, ◌≢◌, ◌≤◌, ◌<◌, ℕ, ◌+◌, ◌-◌, ◌*◌, ◌==◌, cond, List, [], ◌∷◌, length, slice_index, Option, MatchOption}
+use Rattle.std.specs.Prelude.{◌≡◌, ◌≢◌, ◌≤◌, ◌<◌, ℕ, ◌+◌, ◌-◌, ◌*◌, ◌/◌, ◌==◌, min, cond, List, [], ◌∷◌, length, slice_index, Option, MatchOption}
 use Rattle.std.specs.List.{AllByRecursion}
 use Rattle.raw_pool.specs.Bytes.{Bytes, extended, put, word}
 use Rattle.raw_pool.specs.Blocks.{Block, Pool, longest_run}
@@ -80,11 +80,15 @@ abbrev pub bytes_with_run : {A : Type 0} → Store A → ℕ → ℕ → ℕ →
 bytes_with_run s run cells next =
     record { set = with_run s.region.bytes.set run cells next; room = s.region.bytes.room }
 
--- the marks once a cell is marked as the first of a block
+-- the end of the cells of a cell's page
+abbrev pub page_end : ℕ → ℕ → ℕ
+page_end cells cell = min cells ((cell / 128 + 1) * 128)
+
+-- the marks once a cell is marked as the first of a block, where those of its page are set
 abbrev pub marks_with : {A : Type 0} → Store A → ℕ → Bytes
 marks_with s cell =
     record {
-      set = put (extended s.region.marks.set cell) cell (1 ∷ []);
+      set = put (extended s.region.marks.set (page_end s.cells cell)) cell (1 ∷ []);
       room = s.region.marks.room;
     }
 

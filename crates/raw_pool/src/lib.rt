@@ -8,6 +8,6 @@ mod region;
 mod store;
 
 pub use pages::{PageHeap, PageRun, PoolMemory};
-pub use pool::{PAGE_CELLS, RawPool};
+pub use pool::RawPool;
 pub use raw_bytes::RawBytes;
-pub use store::{CELL_SIZE, HEADER_SIZE};
+pub use store::{CELL_SIZE, HEADER_SIZE, PAGE_CELLS};

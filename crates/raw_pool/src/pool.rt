@@ -6,12 +6,9 @@ ghost use Rattle.raw_pool.specs.Blocks.{block_at, cells_for, given, holds_range,
 
 use crate::pages::PoolMemory;
 use crate::region::Region;
-use crate::store::{CELL_SIZE, Store};
+use crate::store::{CELL_SIZE, PAGE_CELLS, Store};
 use std::alloc::{AllocError, Allocator, Global};
 use std::marker::Model;
-
-/// The cells of a page.
-pub const PAGE_CELLS: usize = 128;
 
 /// A region of raw memory: 128 cells of 32 bytes for each of its pages, and blocks known by their
 /// first cells.

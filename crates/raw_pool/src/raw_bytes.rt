@@ -142,17 +142,6 @@ impl RawBytes {
         unsafe { zero(self.ptr.add(len), count) };
         self.len = len + count;
     }
-
-    /// Sets the byte behind those that are set.
-    pub(crate) fn push(&mut self, byte: u8)
-        requires { length self.old.set < self.old.room }
-        ensures set { self.new.set ≡ self.old.set ++ byte ∷ [] }
-        ensures place { (self.new.room ≡ self.old.room) × (self.new.ptr ≡ self.old.ptr) }
-    {
-        let len = self.len;
-        unsafe { self.ptr.add(len).write(byte) };
-        self.len = len + 1;
-    }
 }
 
 /// How many bytes are set to 0 at a time.

@@ -198,15 +198,15 @@ impl<A: Allocator> Region<A> {
         self.marks.overwrite(cell, mark);
     }
 
-    /// Sets the mark of a cell, and those before it that are not set yet to 0.
-    pub(crate) fn put_mark(&mut self, cell: usize, mark: u8)
-        requires { cell < self.old.marks.room }
+    /// Sets the mark of a cell, and those up to `end`, which is behind it, that are not set yet to 0.
+    pub(crate) fn put_mark(&mut self, cell: usize, end: usize, mark: u8)
+        requires { (cell < end) × (end ≤ self.old.marks.room) }
         ensures marks { self.new.marks
-            ≡ with_put (with_extended self.old.marks cell) cell (mark ∷ []) }
+            ≡ with_put (with_extended self.old.marks end) cell (mark ∷ []) }
         ensures bytes { self.new.bytes ≡ self.old.bytes }
         ensures lies { self.new.lies ≡ self.old.lies }
     {
-        self.marks.put(cell, mark);
+        self.marks.put(cell, end, mark);
     }
 }
 

@@ -20,6 +20,9 @@ pub const CELL_SIZE: usize = 32;
 /// The bytes of the header before a block.
 pub const HEADER_SIZE: usize = 8;
 
+/// The cells of a page.
+pub const PAGE_CELLS: usize = 128;
+
 /// The cells that a block of a size takes, its header included.
 fn cells_of(size: usize) -> usize
     requires { size < 2 ^ 63 }
@@ -224,14 +227,16 @@ impl<A: Allocator + Copy> Store<A> {
         }
     }
 
-    /// Marks a cell as the first of a block.
+    /// Marks a cell as the first of a block. Where marks are set for it, all those of its page are.
     fn mark(&mut self, cell: usize)
-        requires { (self.old.region.marks.room ≡ self.old.cells) × (cell < self.old.cells) }
+        requires room { self.old.region.marks.room ≡ self.old.cells }
+        requires within { (cell < self.old.cells) × (self.old.cells ≤ 2 ^ 28) }
         ensures marks { self.new.region.marks ≡ marks_with self.old cell }
         ensures others { ChangesMarks self.old self.new }
         ensures lies { self.new.region.lies ≡ self.old.region.lies }
     {
-        self.region.put_mark(cell, 1);
+        let end = self.cells.min((cell / PAGE_CELLS + 1) * PAGE_CELLS);
+        self.region.put_mark(cell, end, 1);
     }
 
     /// Makes the front of a free run a block, all of whose bytes are 0.

@@ -104,19 +104,14 @@ impl RawBytes {
         self.bytes_mut()[at] = byte;
     }
 
-    /// Sets the byte at an index, and those before it that are not set yet to 0.
-    pub(crate) fn put(&mut self, at: usize, byte: u8)
-        requires { at < self.old.room }
-        ensures set { self.new.set ≡ put (extended self.old.set at) at (byte ∷ []) }
+    /// Sets the byte at an index, and those up to `end`, which is behind it, that are not set yet to 0.
+    pub(crate) fn put(&mut self, at: usize, end: usize, byte: u8)
+        requires { (at < end) × (end ≤ self.old.room) }
+        ensures set { self.new.set ≡ put (extended self.old.set end) at (byte ∷ []) }
         ensures place { (self.new.room ≡ self.old.room) × (self.new.ptr ≡ self.old.ptr) }
     {
-        let len = self.len();
-        if at < len {
-            self.overwrite(at, byte);
-        } else {
-            self.extend_to(at);
-            self.push(byte);
-        }
+        self.extend_to(end);
+        self.overwrite(at, byte);
     }
 
     /// Sets the given number of bytes that are set to 0.

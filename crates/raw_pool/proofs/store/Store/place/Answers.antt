@@ -3,6 +3,7 @@ use Rattle.byteorder.specs.Endian.{little_bytes}
 use Rattle.raw_pool.specs.Bytes.{Bytes, extended, put}
 use Rattle.raw_pool.specs.Blocks.{taken}
 use Rattle.raw_pool.specs.Searches.{IsStore, pool_of}
+use Rattle.raw_pool.specs.Stores.{page_end}
 use Rattle.raw_pool.proofs.Takes.{placed, lead_within, lead_set, run_set, run_within, header_set}
 use Rattle.raw_pool.proofs.store.Store.place.Given.{Over}
 use Rattle.raw_pool.proofs.store.Store.place.Goals as goal
@@ -43,10 +44,10 @@ done g c =
 is_done : (g : Over) (c : goal.After-mark g) → done g c
 is_done g c =
     placed c.args.self.now.region.bytes c.args.self.now.region.marks c.cut-rest.new.self.region.bytes c.set_link.new.self.region.bytes c.mark.new.self.region.bytes c.mark.new.self.region.marks c.args.self.now.cells c.args.self.now.head
-    c.cut-rest.new.self.cells c.cut-rest.new.self.head c.mark.new.self.head c.args.last c.args.at c.args.size c.args.need c.cut-rest.result c.requires.store c.requires.scan c.requires.within c.requires.need c.requires.fits
+    c.cut-rest.new.self.cells c.cut-rest.new.self.head c.mark.new.self.head c.args.last c.args.at c.args.size c.args.need c.cut-rest.result (page_end c.set_link.new.self.cells c.args.at) c.requires.store c.requires.scan c.requires.within (omega arith) c.requires.need c.requires.fits
     (omega arith) (omega arith) c.cut-rest.ensures.cut c.cut-rest.ensures.others.0 c.cut-rest.ensures.others.3 c.cut-rest.ensures.others.1 c.set_link.ensures.bytes
     (c.mark.ensures.others.1 ∙ c.set_link.ensures.head) (c.mark.ensures.others.0 ∙ c.overwrite_word.ensures.bytes)
-    (c.mark.ensures.marks ∙ ap (λ (m : Bytes). record { set = put (extended m.set c.args.at) c.args.at (1 ∷ []); room = m.room }) (c.overwrite_word.ensures.marks ∙ c.set_link.ensures.others.0 ∙ c.cut-rest.ensures.others.2))
+    (c.mark.ensures.marks ∙ ap (λ (m : Bytes). record { set = put (extended m.set (page_end c.set_link.new.self.cells c.args.at)) c.args.at (1 ∷ []); room = m.room }) (c.overwrite_word.ensures.marks ∙ c.set_link.ensures.others.0 ∙ c.cut-rest.ensures.others.2))
 
 cells_stay : (g : Over) (c : goal.After-mark g) → c.mark.new.self.cells ≡ c.args.self.now.cells
 cells_stay g c = c.mark.ensures.others.2 ∙ c.set_link.ensures.others.1 ∙ c.cut-rest.ensures.others.3
