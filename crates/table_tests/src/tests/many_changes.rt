@@ -1,4 +1,4 @@
-//! A million drawn changes of a table of 20,000 runs, against a plain list of pages.
+//! A million drawn changes of a table of more than 20,000 runs, against a plain list of pages.
 ghost use Rattle.std.specs.Prelude.{◌≡◌};
 ghost use Rattle.page_ranges.specs.Memory.{IsProperMemory};
 ghost use Rattle.page_ranges.specs.Runs.{pages_of, AreRuns};
@@ -17,12 +17,17 @@ fn wide_machine() -> [Run; 1]
     [run(0, 65_536, 7, 0xf)]
 }
 
-// All pages of the machine: the page of a number is at that index. And how many runs and map entries they make.
+// How many pages the machine has, a power of two.
+const MACHINE_PAGES: u64 = 65_536;
+
+// All pages of the machine: the page of a number is at that index. How many runs and map entries they make, and how many
+// changes of one to three pages gave one of these another type or owner.
 #[derive(Drop)]
 struct Pages {
     list: Vec<Run>,
     runs: usize,
     entries: usize,
+    changed: usize,
 }
 
 // Whether a run or an entry begins with the page at an index.
@@ -47,6 +52,17 @@ fn count_beginning(list: &[Run], range: PageRange, is_split_by_owner: bool) -> u
     count
 }
 
+// Whether a page of a range has another type or owner than these.
+fn has_others(list: &[Run], range: PageRange, number: u32, owner: Owner) -> bool {
+    for page in range.first..range.first.saturating_add(range.pages) {
+        match list.get(page as usize) {
+            Some(run) if run.mtype.number() == number && run.owner == owner => {}
+            _ => return true,
+        }
+    }
+    false
+}
+
 // Gives the pages of a range a type and an owner, and counts what begins there before and after.
 fn change_pages(pages: &mut Pages, range: PageRange, number: u32, owner: Owner) {
     let list = pages.list.as_mut_slice();
@@ -56,6 +72,9 @@ fn change_pages(pages: &mut Pages, range: PageRange, number: u32, owner: Owner) 
         .len()
         .min(range.first.saturating_add(range.pages) as usize);
     let first = end.min(range.first as usize);
+    if range.pages <= 3 && has_others(list, range, number, owner) {
+        pages.changed = pages.changed.saturating_add(1);
+    }
     change_list(&mut list[first..end], range, number, owner);
     let new_runs = count_beginning(list, range, true);
     let new_entries = count_beginning(list, range, false);
@@ -102,14 +121,16 @@ fn assert_edge(rt: &impl Abort, table: &RunTable, pages: &Pages, page: u64) {
     }
 }
 
-// A drawn range, mostly of few pages.
+// A drawn range of one to three pages of the machine, now and then of many.
 fn drawn_range(draw: u64) -> PageRange {
+    let pages = match draw >> 20 & 1_023 {
+        0 => 300,
+        drawn => 1 + drawn % 3,
+    };
+    let first = draw >> 30 & (MACHINE_PAGES - 1);
     PageRange {
-        first: draw >> 30 & 65_535,
-        pages: match draw >> 20 & 1_023 {
-            0 => 300,
-            pages => pages % 4,
-        },
+        first: first.min(MACHINE_PAGES - pages),
+        pages,
     }
 }
 
@@ -130,8 +151,8 @@ fn assert_found(rt: &impl Abort, table: &mut RunTable, pages: &Pages, range: Pag
     assert!(rt; table.find_owned(range, Owner::Pages) == wanted);
 }
 
-// Changes a drawn range of the table and of the list, if all its pages are present. The table has most often
-// been asked for the range, or for another one, since the last change.
+// Changes a drawn range of the table and of the list. The table has most often been asked for the range, or for another
+// one, since the last change.
 fn change_drawn(rt: &impl Abort, table: &mut RunTable, pages: &mut Pages, draw: u64) {
     let range = drawn_range(draw);
     let (number, owner) = drawn_kind(draw >> 50);
@@ -140,16 +161,37 @@ fn change_drawn(rt: &impl Abort, table: &mut RunTable, pages: &mut Pages, draw: 
         1 => assert_found(rt, table, pages, drawn_range(draw.rotate_left(23))),
         _ => assert_found(rt, table, pages, range),
     }
-    if are_present(table, range) {
-        table
-            .retype(range, MemoryType::new(number), owner)
-            .expect(rt, "memory");
-        change_pages(pages, range, number, owner);
-        assert_edge(rt, table, pages, range.first);
-        assert_edge(rt, table, pages, range.first.saturating_add(range.pages));
-    }
+    assert!(rt; are_present(table, range));
+    table
+        .retype(range, MemoryType::new(number), owner)
+        .expect(rt, "memory");
+    change_pages(pages, range, number, owner);
+    assert_edge(rt, table, pages, range.first);
+    assert_edge(rt, table, pages, range.first.saturating_add(range.pages));
 }
 
+// Makes drawn changes until a number of those of one to three pages have given one of these another type or owner, as
+// four in five do. Returns the last draw.
+fn change_until(
+    rt: &impl Abort,
+    table: &mut RunTable,
+    pages: &mut Pages,
+    wanted: usize,
+    before: u64,
+) -> u64 {
+    let mut draw = before;
+    pages.changed = 0;
+    for _change in 0..wanted.saturating_mul(2) {
+        if pages.changed == wanted {
+            return draw;
+        }
+        draw = next_draw(draw);
+        change_drawn(rt, table, pages, draw);
+    }
+    panic!(rt; "few changes give a page another type or owner");
+}
+
+// Before the million changes are made, 100,000 bring the table to its many runs.
 #[test]
 fn a_million_changes_are_those_of_the_pages(rt: HostRuntime) {
     let mut table = RunTable::from_runs(rt.alloc(), &wide_machine()).expect(&rt, "memory");
@@ -158,13 +200,11 @@ fn a_million_changes_are_those_of_the_pages(rt: HostRuntime) {
         list,
         runs: 1,
         entries: 1,
+        changed: 0,
     };
     let mut draw = 3;
-    for _part in 0..10 {
-        for _change in 0..100_000 {
-            draw = next_draw(draw);
-            change_drawn(&rt, &mut table, &mut pages, draw);
-        }
+    for _part in 0..11 {
+        draw = change_until(&rt, &mut table, &mut pages, 100_000, draw);
         assert_table(&rt, &table, pages.list.as_slice());
         assert!(rt; table.len() > 20_000);
     }

@@ -17,15 +17,15 @@ use std::process::Abort;
 // Changes that are drawn: from which number on, below which page their ranges begin, a power of two, and how many pages
 // one in eight of them has. One in eight has none, and the others have one or two.
 #[derive(Clone, Copy)]
-struct Load {
-    draw: u64,
-    places: u64,
-    pages: u64,
+pub struct Load {
+    pub draw: u64,
+    pub places: u64,
+    pub pages: u64,
 }
 
 // What becomes of the leaves in changes.
 #[derive(Clone, Copy)]
-struct Counts {
+pub struct Counts {
     // How many changes came to more leaves.
     grown: usize,
     // How many changes of a page or two left at least three leaves less, as only that of all leaves made anew, or laid in
@@ -122,7 +122,7 @@ fn change_many<A: Allocator + Copy>(
 }
 
 // Makes as many drawn changes as memory is reserved for.
-fn change_all<A: Allocator + Copy>(
+pub fn change_all<A: Allocator + Copy>(
     rt: &(impl AllocGlobal + Abort),
     table: &mut RunTable<A>,
     list: &mut [Run],
@@ -197,7 +197,7 @@ fn refuse_each(
 }
 
 // A table in which the runs up to a page have two pages each, and its list.
-fn striped(rt: &(impl AllocGlobal + Abort), end: u64) -> (RunTable, Vec<Run>) {
+pub fn striped(rt: &(impl AllocGlobal + Abort), end: u64) -> (RunTable, Vec<Run>) {
     let mut table = RunTable::from_runs(rt.alloc(), &large_machine()).expect(rt, "memory");
     let mut list = listed(rt, &large_machine());
     stripe(rt, &mut table, list.as_mut_slice(), 0, end);
@@ -340,12 +340,12 @@ fn leaves_laid_in_order_take_no_memory(rt: HostRuntime) {
     assert!(rt; laid.times > 0);
 }
 
-// The machine's pages, of which each two have other attributes than those beside them, so that no runs are joined.
-fn unlike_machine(rt: &(impl AllocGlobal + Abort)) -> Machine {
+// Pairs of pages, of which each has other attributes than those beside it, so that no runs are joined.
+pub fn unlike_machine(rt: &(impl AllocGlobal + Abort), pairs: u64) -> Machine {
     let mut runs = Vec::new(rt.alloc());
-    for pair in 0..1_024_u64 {
+    for pair in 0..pairs {
         let attributes = if pair % 2 == 0 { 0xf } else { 0x7 };
-        runs.push(run(2 * pair, 2, 7, attributes))
+        runs.push(run(pair.saturating_mul(2), 2, 7, attributes))
             .expect(rt, "memory");
     }
     Machine::new(runs, 1).expect(rt, "a machine")
@@ -359,7 +359,7 @@ fn changes_of_many_runs_take_no_memory(rt: HostRuntime) {
         places: 1_024,
         pages: 150,
     };
-    let machine = unlike_machine(&rt);
+    let machine = unlike_machine(&rt, 1_024);
     let table = RunTable::from_runs(rt.alloc(), machine.runs()).expect(&rt, "memory");
     let list = listed(&rt, machine.runs());
     let Counts { grown, anew } = change_without_memory(&rt, &table, list.as_slice(), 60, load);
