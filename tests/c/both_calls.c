@@ -6,12 +6,6 @@
 #include <stdlib.h>
 #include <string.h>
 
-void both_free(struct both *both)
-{
-    RafkudinFree(both->core);
-    free(both->lists);
-}
-
 /* ---- What was returned ---- */
 
 /* Whether some numbers are those that the lists returned, from an index on. */
@@ -344,22 +338,73 @@ static void compare_items(const struct both *both)
     }
 }
 
-/* Compares the children of each pair that made some. */
-static void compare_children(struct both *both)
+/* Whether the children of a pair are those that the lists returned. */
+static bool are_children(const struct both *both, uint64_t controller, uint64_t agent)
 {
     static uint64_t children[RAFKUDIN_MAX_HANDLES];
+    uint64_t count = 0;
 
-    for (size_t at = 0; at < both->lists->made_count; at++) {
-        const struct made *made = &both->lists->made[at];
-        uint64_t count = 0;
-        bool is_there = false;
+    return RafkudinChildren(both->core, controller, agent, children, COUNT(children), &count) ==
+               RAFKUDIN_SUCCESS &&
+           are_returned(both, 0, children, count);
+}
 
-        HOLDS(RafkudinChildren(both->core, made->by.controller, made->by.agent, children,
-                               RAFKUDIN_MAX_HANDLES, &count) == RAFKUDIN_SUCCESS);
-        for (size_t child = 0; child < count && child < RAFKUDIN_MAX_HANDLES; child++)
-            is_there = is_there || children[child] == made->handle;
-        HOLDS(is_there);
+static void compare_pair(struct both *both, struct pair pair)
+{
+    plain_children(both->lists, pair);
+    HOLDS(are_children(both, pair.controller, pair.agent));
+}
+
+/* How many of the live handles are asked as agents; driver handles are the first ones. */
+#define AGENTS 16U
+
+/* Whether each of these agents has the children on a controller that the lists have: there may be
+ * some, or none. */
+static bool are_children_on(struct both *both, uint64_t controller, bool may_be)
+{
+    const struct lists *lists = both->lists;
+
+    for (size_t at = 0; at < lists->handle_count && at < AGENTS; at++) {
+        struct pair pair = {controller, lists->handles[at]};
+
+        both->lists->number_count = 0;
+        if (may_be)
+            plain_children(both->lists, pair);
+        if (!are_children(both, pair.controller, pair.agent))
+            return false;
     }
+    return true;
+}
+
+/* Compares the children of each pair that has some, and looks for others on all live handles. */
+static void compare_children(struct both *both)
+{
+    const struct lists *lists = both->lists;
+
+    see_none(lists);
+    for (size_t at = 0; at < lists->made_count; at++) {
+        seen[lists->made[at].by.controller]++;
+        compare_pair(both, lists->made[at].by);
+    }
+    for (size_t at = 0; at < lists->item_count; at++) {
+        const struct item *item = &lists->items[at];
+
+        if (item->attributes == RAFKUDIN_BY_CHILD_CONTROLLER) {
+            seen[item->handle]++;
+            compare_pair(both, (struct pair){item->handle, item->agent});
+        }
+    }
+    for (size_t at = 0; at < lists->handle_count; at++)
+        HOLDS(are_children_on(both, lists->handles[at], seen[lists->handles[at]] > 0));
+}
+
+/* Compares whether each registration is still to be served, by a search without room for a handle,
+ * which takes none. The key behind the last one is unknown. No question returns a mark: that is
+ * compared by what the searches of `both_end` take. */
+static void compare_registrations(struct both *both)
+{
+    for (uint64_t key = 0; key <= both->lists->registration_count + 1; key++)
+        both_locate(both, RAFKUDIN_BY_REGISTER_NOTIFY, 1, key, 0);
 }
 
 void both_compare(struct both *both)
@@ -370,4 +415,15 @@ void both_compare(struct both *both)
     for (size_t at = 0; at < both->lists->item_count; at++)
         both_information(both, both->lists->items[at].handle, both->lists->items[at].guid);
     compare_children(both);
+    compare_registrations(both);
+}
+
+void both_end(struct both *both)
+{
+    both_compare(both);
+    for (uint64_t key = 1; key <= both->lists->registration_count; key++)
+        while (both_locate(both, RAFKUDIN_BY_REGISTER_NOTIFY, 1, key, 8) == RAFKUDIN_SUCCESS)
+            continue;
+    RafkudinFree(both->core);
+    free(both->lists);
 }

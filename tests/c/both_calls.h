@@ -12,9 +12,6 @@ struct both {
     uint64_t seed;
 };
 
-/* Ends a core and its lists. */
-void both_free(struct both *both);
-
 /* Installs on a handle, or on a new one where that is 0; of many interfaces there are at most
  * three. */
 uint64_t both_install(struct both *both, uint64_t handle, uint32_t kind, struct named named);
@@ -37,6 +34,10 @@ uint64_t both_connect(struct both *both, uint64_t handle, bool is_recursive);
 uint64_t both_disconnect(struct both *both, uint64_t handle, uint64_t driver);
 
 /* Compares all handles, their interfaces, the items on these and those of each handle as an agent,
- * and the children that were made. */
+ * the children of each pair, and which registrations are still to be served. */
 void both_compare(struct both *both);
+
+/* Compares all this and, one after the other, the handles that each registration is still to be
+ * served; then ends the core and its lists. */
+void both_end(struct both *both);
 #endif

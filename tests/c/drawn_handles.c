@@ -2,11 +2,12 @@
  * it returns, with the events that it signals. First on cores without drivers; then on one handle,
  * with up to 20 open items; then on full cores and on small ones, on which drivers start, make
  * children and stop. There a connect goes down to the eighth level or not below its handle, and a
- * reinstallation stops drivers and starts them again. All handles, interfaces and open items are
- * compared too: on the full cores every 250 calls, on the small ones after each stop that is
- * refused, and at the end of each core. Of each service and status a least number of calls is
- * wanted, and of each reason for which a stop is refused. Each point that does not hold is printed
- * on standard error, and then the status is 1. */
+ * reinstallation stops drivers and starts them again. All handles, interfaces, open items, children
+ * and registrations are compared too: on the full cores every 250 calls, on the small ones after
+ * each stop that is refused, and at the end of each core, where each registration is served to its
+ * end. Of each service and status a least number of calls is wanted, and of each reason for which a
+ * stop is refused. Each point that does not hold is printed on standard error, and then the status
+ * is 1. */
 #include "both_calls.h"
 #include "draws.h"
 #include "points.h"
@@ -322,8 +323,7 @@ static void draw_without_drivers(void)
 
             tally(service, serve(&both, service));
         }
-        both_compare(&both);
-        both_free(&both);
+        both_end(&both);
         if (seed == 9)
             try_least(least_plain, COUNT(least_plain));
     }
@@ -372,7 +372,7 @@ static void draw_on_one(uint64_t seed)
             turns++;
         }
     }
-    both_free(&both);
+    both_end(&both);
 }
 
 /* ---- Cores with drivers ---- */
@@ -618,7 +618,7 @@ static void draw_on_many(uint64_t seed)
     }
     if (seed == 1)
         try_least(least_many, COUNT(least_many));
-    both_free(&both);
+    both_end(&both);
 }
 
 /* How often each hindrance is wanted on the first eight small cores. */
@@ -648,10 +648,9 @@ static void draw_on_few(uint64_t seed, unsigned long refused[HINDRANCES])
         if (refused_in_all(both.lists) != before)
             both_compare(&both);
     }
-    both_compare(&both);
     for (size_t reason = 0; reason < HINDRANCES; reason++)
         refused[reason] += both.lists->refused[reason];
-    both_free(&both);
+    both_end(&both);
 }
 
 static void draw_with_drivers(void)

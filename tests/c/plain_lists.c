@@ -22,7 +22,7 @@ struct lists *lists_new(const struct plain_driver *drivers, size_t count)
     return lists;
 }
 
-static void return_number(struct lists *lists, uint64_t number)
+void return_number(struct lists *lists, uint64_t number)
 {
     need(lists->number_count < COUNT(lists->numbers));
     lists->numbers[lists->number_count++] = number;

@@ -115,12 +115,17 @@ uint64_t plain_handle_protocol(struct lists *lists, uint64_t handle, uint8_t gui
 uint64_t plain_connect(struct lists *lists, uint64_t controller, bool is_recursive);
 uint64_t plain_disconnect(struct lists *lists, uint64_t handle, uint64_t driver);
 
+/* The children of a pair, in `numbers`: the handles that it made, and then those for which its
+ * agent has an interface of its controller open as for a child, each once. */
+void plain_children(struct lists *lists, struct pair pair);
+
 /* ---- What the drivers' part needs of the other ---- */
 
 /* The refusal of an open by the table alone, before a driver is stopped; SUCCESS where there is
  * none. */
 uint64_t open_refusal(const struct lists *lists, const struct item *open);
 uint64_t make_handle(struct lists *lists);
+void return_number(struct lists *lists, uint64_t number);
 void push_item(struct lists *lists, const struct item *item);
 
 /* Installs an interface, or gives one another value where it is: it has a new stamp, and the events
