@@ -50,6 +50,7 @@ void time_calls(struct load *load, const char *phase, const char *service, size_
                 one_call *call);
 
 uint64_t draw_between(struct load *load, uint64_t least, uint64_t most);
+size_t least_of(size_t one, size_t other);
 
 /* Places blocks of drawn sizes in the pool. */
 void place_blocks(struct load *load, const char *phase, size_t count);
@@ -72,6 +73,21 @@ one_call open_by_driver;
 /* An agent opens the first interface of a drawn handle, which makes an item or raises the count of
  * one. */
 one_call open_to_get;
+
+/* The kind that a driver needs beside the one that it opens, in the loads where it does. */
+const struct rafkudin_guid *other_kind(const struct load *load);
+
+/* Starts and stops of a driver of the machine, on some handles or on all; where it makes a child,
+ * also in a full table, or one that is a driver handle; where it can't start again; and where its
+ * driver binding is reinstalled (driver_loads.c). */
+void run_drivers(struct load *load, size_t handles);
+void run_driven(struct load *load, size_t handles);
+void run_children(struct load *load, size_t handles);
+void run_full(struct load *load, size_t handles);
+void run_driver_children(struct load *load, size_t handles);
+void run_stopped(struct load *load, size_t handles);
+void run_stopped_children(struct load *load, size_t handles);
+void run_bindings(struct load *load, size_t handles);
 
 /* Questions, and the turns and stops of drivers that are code, beside OpenProtocol (questions of
  * question_loads.c). */

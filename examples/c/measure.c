@@ -8,16 +8,20 @@
  * place), pool-10000 (of blocks), handles-64, handles-1024 or handles-4096 (of handles),
  * drivers-64, drivers-1024 or drivers-4096 (of handles, on which a driver is started and stopped),
  * driven-4096 (of handles, all of which are driven then), children-64 or children-4096 (of handles,
- * where that driver makes a child), questions-64, questions-1024 or questions-4096 (of handles and
- * blocks, which are asked for one by one), keys-10000 (of registrations), paths-4000 or
- * vain-paths-4000 (of handles with device paths of nearly as many nodes as the one of 60,000 that
- * is looked for, which take 1 GB), or chain-4096 (of handles, each the child of a driver on the one
- * before); without any all are run. It prints nanoseconds a call, the least of COUNT repetitions,
- * each on a new core; what a call asks for is drawn before the clock starts. `refused` is a call
- * that is refused at once: what any call costs at least. With --certify the core keeps the
- * certificates of placements. With --growth two tables in Markdown are printed: of what calls on
- * pages cost in a churn at 100 live allocations, ten times as many and so on up to MAX, and of a
- * request that nothing can hold, without and with certificates. */
+ * where that driver makes a child), full-4096 (of handles, the same where no more can be made),
+ * driver-children-64 or driver-children-4096 (of handles, where the child is a driver's),
+ * stopped-64, stopped-4096, stopped-children-64 or stopped-children-4096 (of handles, on which no
+ * driver can start again once one is stopped, without and with a child), bindings-64 or
+ * bindings-4096 (of handles, whose driver binding is reinstalled), questions-64, questions-1024 or
+ * questions-4096 (of handles and blocks, which are asked for one by one), keys-10000 (of
+ * registrations), paths-4000 or vain-paths-4000 (of handles with device paths of nearly as many
+ * nodes as the one of 60,000 that is looked for, which take 1 GB), or chain-4096 (of handles, each
+ * the child of a driver on the one before); without any all are run. It prints nanoseconds a call,
+ * the least of COUNT repetitions, each on a new core; what a call asks for is drawn before the
+ * clock starts. `refused` is a call that is refused at once: what any call costs at least. With
+ * --certify the core keeps the certificates of placements. With --growth two tables in Markdown are
+ * printed: of what calls on pages cost in a churn at 100 live allocations, ten times as many and so
+ * on up to MAX, and of a request that nothing can hold, without and with certificates. */
 #include "fault.h"
 #include "loads.h"
 
@@ -47,10 +51,6 @@
 
 /* The handles that the registrations meet, an interface on each. */
 #define KEYED_HANDLES 1024
-
-/* The handle that carries the driver binding, and the most controllers of a round of its driver. */
-#define DRIVER 1
-#define MAX_DRIVEN 256
 
 const struct rafkudin_guid driver_binding = {
     {0xab, 0x31, 0xa0, 0x18, 0x43, 0xb4, 0x1a, 0x4d, 0xa5, 0xc0, 0x0c, 0x09, 0x26, 0x1e, 0x9f, 0x71}};
@@ -206,7 +206,7 @@ static void get_maps(struct load *load, const char *phase)
     time_calls(load, phase, "GetMemoryMap", MAPS, get_map);
 }
 
-static size_t least_of(size_t one, size_t other)
+size_t least_of(size_t one, size_t other)
 {
     return one < other ? one : other;
 }
@@ -377,136 +377,6 @@ static void run_handles(struct load *load, size_t handles)
     time_calls(load, "take out", "UninstallProtocolInterface", handles / 2, take_out);
 }
 
-/* The kind that the driver needs and opens, of an interface whose value is its handle. */
-static const struct rafkudin_guid *driven_kind(const struct load *load)
-{
-    return &load->kinds[KINDS];
-}
-
-/* The controller of a call: a handle above the driver's. */
-static uint64_t controller_at(size_t number)
-{
-    return DRIVER + 1 + number;
-}
-
-/* Installs the driver binding of the machine's first driver on a new handle, which is the first. */
-static void install_driver(struct load *load)
-{
-    uint64_t handle = 0;
-
-    if (RafkudinInstallProtocolInterface(load->core, &handle, &driver_binding, 0, 0) !=
-            RAFKUDIN_SUCCESS ||
-        handle != DRIVER)
-        fail("the driver's handle is refused");
-}
-
-/* Installs an interface that the driver needs, and another, on a new handle. */
-static bool install_controller(struct load *load, size_t number)
-{
-    uint64_t handle = 0, expected = controller_at(number);
-    struct rafkudin_interface pair[2] = {{*kind_of(load, expected), expected},
-                                         {*driven_kind(load), expected}};
-
-    return RafkudinInstallMultipleProtocolInterfaces(load->core, &handle, pair, 2) ==
-               RAFKUDIN_SUCCESS &&
-           handle == expected;
-}
-
-static bool start_driver(struct load *load, size_t number)
-{
-    return RafkudinConnectDrivers(load->core, controller_at(number), NULL, 0, false) ==
-           RAFKUDIN_SUCCESS;
-}
-
-static bool stop_driver(struct load *load, size_t number)
-{
-    return RafkudinDisconnectDrivers(load->core, controller_at(number), 0) == RAFKUDIN_SUCCESS;
-}
-
-/* Reinstalls an interface that no driver has open, on a controller where no driver is to start. */
-static bool reinstall_other(struct load *load, size_t number)
-{
-    uint64_t handle = controller_at(number);
-
-    return RafkudinReinstallProtocolInterface(load->core, handle, kind_of(load, handle), handle,
-                                              handle) == RAFKUDIN_SUCCESS;
-}
-
-/* Reinstalls the interface that the driver has open, which stops the driver and starts it again. */
-static bool reinstall_driven(struct load *load, size_t number)
-{
-    uint64_t handle = controller_at(number);
-
-    return RafkudinReinstallProtocolInterface(load->core, handle, driven_kind(load), handle,
-                                              handle) == RAFKUDIN_SUCCESS;
-}
-
-/* Opens the interface that the driver has open exclusively, which stops the driver. Its agent is
- * the controller. */
-static bool open_exclusive(struct load *load, size_t number)
-{
-    uint64_t handle = controller_at(number), value;
-
-    return RafkudinOpenProtocol(load->core, handle, driven_kind(load), &value, handle, 0,
-                                RAFKUDIN_EXCLUSIVE) == RAFKUDIN_SUCCESS;
-}
-
-static bool close_exclusive(struct load *load, size_t number)
-{
-    uint64_t handle = controller_at(number);
-
-    return RafkudinCloseProtocol(load->core, handle, driven_kind(load), handle, 0) ==
-           RAFKUDIN_SUCCESS;
-}
-
-/* Takes out the interface that the driver has open, which stops the driver. */
-static bool take_driven_out(struct load *load, size_t number)
-{
-    uint64_t handle = controller_at(number);
-
-    return RafkudinUninstallProtocolInterface(load->core, handle, driven_kind(load), handle) ==
-           RAFKUDIN_SUCCESS;
-}
-
-static void start_and_stop(struct load *load, size_t handles, size_t driven)
-{
-    install_driver(load);
-    time_calls(load, "install", "InstallMultipleProtocolInterfaces", handles - 1,
-               install_controller);
-    time_calls(load, "start", "ConnectController", driven, start_driver);
-    time_calls(load, "other", "ReinstallProtocolInterface", driven, reinstall_other);
-    time_calls(load, "restart", "ReinstallProtocolInterface", driven, reinstall_driven);
-    time_calls(load, "stop", "DisconnectController", driven, stop_driver);
-    time_calls(load, "start", "ConnectController", driven, start_driver);
-    time_calls(load, "stop", "OpenProtocol", driven, open_exclusive);
-    time_calls(load, "close", "CloseProtocol", driven, close_exclusive);
-    time_calls(load, "start", "ConnectController", driven, start_driver);
-    time_calls(load, "stop", "UninstallProtocolInterface", driven, take_driven_out);
-}
-
-static void run_drivers(struct load *load, size_t handles)
-{
-    start_and_stop(load, handles, least_of(handles - 1, MAX_DRIVEN));
-}
-
-static void run_driven(struct load *load, size_t handles)
-{
-    start_and_stop(load, handles, handles - 1);
-}
-
-/* The same drivers with a child each, which goes as its driver is stopped. One handle more can be made. */
-static void run_children(struct load *load, size_t handles)
-{
-    size_t driven = least_of(handles / 4, MAX_DRIVEN);
-
-    install_driver(load);
-    time_calls(load, "install", "InstallMultipleProtocolInterfaces", handles - 2 - driven,
-               install_controller);
-    time_calls(load, "start", "ConnectController", driven, start_driver);
-    time_calls(load, "restart", "ReinstallProtocolInterface", driven, reinstall_driven);
-    time_calls(load, "stop", "DisconnectController", driven, stop_driver);
-}
-
 /* Registers for a kind. Keys count up from 1. */
 static bool register_kind(struct load *load, size_t number)
 {
@@ -543,10 +413,10 @@ static void run_keys(struct load *load, size_t keys)
     time_calls(load, "serve", "LocateProtocol", keys, take_value);
 }
 
-/* The machine's driver: it needs an interface of a kind, and opens it. Where it makes a child, that
- * has an interface of a kind too. */
+/* The machine's driver: it needs an interface of a kind, and opens it. Where it needs another, or
+ * makes a child, that is of a kind too. */
 static void add_driver(struct machine *machine, const struct rafkudin_guid *kind,
-                       const struct rafkudin_guid *child)
+                       const struct rafkudin_guid *other, const struct rafkudin_guid *child)
 {
     struct rafkudin_driver driver = {0};
 
@@ -554,6 +424,8 @@ static void add_driver(struct machine *machine, const struct rafkudin_guid *kind
     driver.stops = true;
     driver.needs[0] = driver.opens[0] = *kind;
     driver.needs_count = driver.opens_count = 1;
+    if (other != NULL)
+        driver.needs[driver.needs_count++] = *other;
     if (child != NULL) {
         driver.children[0].interfaces[0].guid = *child;
         driver.children[0].count = 1;
@@ -646,6 +518,15 @@ static const struct {
     {"driven-4096", run_driven, make_machine, 4096, 3},
     {"children-64", run_children, make_machine, 64, 15},
     {"children-4096", run_children, make_machine, 4096, 5},
+    {"full-4096", run_full, make_machine, 4096, 5},
+    {"driver-children-64", run_driver_children, make_machine, 64, 15},
+    {"driver-children-4096", run_driver_children, make_machine, 4096, 5},
+    {"stopped-64", run_stopped, make_machine, 64, 15},
+    {"stopped-4096", run_stopped, make_machine, 4096, 5},
+    {"stopped-children-64", run_stopped_children, make_machine, 64, 15},
+    {"stopped-children-4096", run_stopped_children, make_machine, 4096, 5},
+    {"bindings-64", run_bindings, make_machine, 64, 15},
+    {"bindings-4096", run_bindings, make_machine, 4096, 5},
     {"questions-64", run_questions, make_machine, 64, 15},
     {"questions-1024", run_questions, make_machine, 1024, 9},
     {"questions-4096", run_questions, make_machine, 4096, 5},
@@ -655,13 +536,26 @@ static const struct {
     {"chain-4096", run_chain, make_machine, 4096, 3},
 };
 
+/* The kind that the driver of a load needs beside the one that it opens, if it needs one. */
+static const struct rafkudin_guid *other_need(const struct load *load, size_t index)
+{
+    bool is_stopped = loads[index].run == run_stopped || loads[index].run == run_stopped_children;
+
+    return is_stopped ? other_kind(load) : NULL;
+}
+
 /* The kind of the child that the driver of a load makes, if it makes one. In a chain the driver is
  * started on it. */
 static const struct rafkudin_guid *child_kind(const struct load *load, size_t index)
 {
-    if (loads[index].run == run_chain)
+    void (*run)(struct load *load, size_t live) = loads[index].run;
+
+    if (run == run_chain)
         return &load->kinds[KINDS];
-    return loads[index].run == run_children ? &load->kinds[0] : NULL;
+    if (run == run_driver_children)
+        return &driver_binding;
+    return run == run_children || run == run_full || run == run_stopped_children ? &load->kinds[0]
+                                                                                 : NULL;
 }
 
 /* Runs a load the given number of times, or as often as it says, each time on a new core. */
@@ -681,7 +575,7 @@ static void repeat(struct meter *meter, size_t index, int repetitions, bool cert
     for (size_t kind = 0; kind <= KINDS; kind++)
         put_number(load.kinds[kind].bytes, sizeof load.kinds[kind].bytes,
                    0x6b66615200000000 + kind);
-    add_driver(&machine, &load.kinds[KINDS], child_kind(&load, index));
+    add_driver(&machine, &load.kinds[KINDS], other_need(&load, index), child_kind(&load, index));
     for (int done = 0; done < repetitions; done++) {
         load.drawn = 0x9e3779b97f4a7c15;
         load.count = 0;
