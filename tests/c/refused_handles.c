@@ -1,11 +1,13 @@
-/* Calls on handles and drivers over memory that is refused, as the lists grow: the first allocation
- * of a call and all after it, then from the second on, and so on until the call is served; each
- * allocation alone; and all that goes past an amount of bytes, for each amount. A call that is
- * refused memory returns OUT_OF_RESOURCES and leaves all handles, interfaces, open items and what
- * is in memory as they were, and one that is refused none is served. An interface that
- * UninstallMultipleProtocolInterfaces took out comes back where memory runs out at a later one. The
- * heap is that of refusing_heap.h, instead of the library's. Each point that does not hold is
- * printed on standard error, and then the status is 1. */
+/* Calls on handles and drivers over memory that is refused, as the lists grow and on a full table:
+ * the first allocation of a call and all after it, then from the second on, and so on until the
+ * call is served; each allocation alone; and all that goes past an amount of bytes, for each
+ * amount. A call that is refused memory returns OUT_OF_RESOURCES and leaves all handles,
+ * interfaces, open items, children, registrations and what is in memory as they were. One that is
+ * refused none is served, and leaves what it leaves on a core that was never refused any. An
+ * interface that UninstallMultipleProtocolInterfaces took out comes back where memory runs out at a
+ * later one. The heap is that of refusing_heap.h, instead of the library's. Each point that does
+ * not hold is printed on standard error, and then the status is 1. */
+#include "core_state.h"
 #include "points.h"
 #include "refusing_heap.h"
 #include "small_core.h"
@@ -17,104 +19,25 @@
 
 #define SUCCESS RAFKUDIN_SUCCESS
 
-/* ---- What a core has ---- */
-
-/* All of a core's lists as text of numbers. */
-struct state {
-    uint64_t numbers[1 << 16];
-    size_t count;
-};
-
-static void push(struct state *state, uint64_t number)
-{
-    if (state->count == COUNT(state->numbers))
-        abort();
-    state->numbers[state->count++] = number;
-}
-
-static void push_guid(struct state *state, const struct rafkudin_guid *guid)
-{
-    uint64_t halves[2];
-
-    memcpy(halves, guid->bytes, sizeof halves);
-    push(state, halves[0]);
-    push(state, halves[1]);
-}
-
-static void push_items(struct state *state, const struct rafkudin *core, uint64_t handle,
-                       const struct rafkudin_guid *guid)
-{
-    struct rafkudin_item item;
-
-    for (size_t at = 0; RafkudinOpenItem(core, handle, guid, at, &item) == SUCCESS; at++) {
-        push(state, item.agent);
-        push(state, item.controller);
-        push(state, (uint64_t)item.attributes << 32 | item.open_count);
-    }
-}
-
-/* The interfaces on a handle with what is open on them and who holds the same GUID, and what the
- * handle has open itself. */
-static void push_handle(struct state *state, const struct rafkudin *core, uint64_t handle)
-{
-    struct rafkudin_interface interface;
-    struct rafkudin_open open;
-    uint64_t holder;
-
-    push(state, handle);
-    for (size_t at = 0; RafkudinInterface(core, handle, at, &interface) == SUCCESS; at++) {
-        push_guid(state, &interface.guid);
-        push(state, interface.value);
-        push_items(state, core, handle, &interface.guid);
-        for (size_t index = 0; index < 3; index++)
-            if (RafkudinHolder(core, &interface.guid, index, &holder) == SUCCESS)
-                push(state, holder);
-    }
-    for (size_t at = 0; RafkudinAgentItem(core, handle, at, &open) == SUCCESS; at++) {
-        push(state, open.handle);
-        push_guid(state, &open.guid);
-        push(state, open.controller);
-    }
-}
-
-static void take_state(struct state *state, const struct rafkudin *core)
-{
-    uint64_t handle;
-
-    state->count = 0;
-    for (size_t at = 0; RafkudinHandle(core, at, &handle) == SUCCESS; at++)
-        push_handle(state, core, handle);
-}
-
-/* The children that each pair has: this takes memory. */
-static void push_children(struct state *state, const struct rafkudin *core, uint64_t controllers,
-                          uint64_t agents)
-{
-    uint64_t children[64], count;
-
-    for (uint64_t controller = 1; controller <= controllers; controller++)
-        for (uint64_t agent = 1; agent <= agents; agent++) {
-            count = 0;
-            HOLDS(RafkudinChildren(core, controller, agent, children, 64, &count) == SUCCESS);
-            for (uint64_t at = 0; at < count; at++)
-                push(state, children[at]);
-            push(state, count);
-        }
-}
-
-static bool are_same(const struct state *one, const struct state *other)
-{
-    return one->count == other->count &&
-           memcmp(one->numbers, other->numbers, one->count * sizeof one->numbers[0]) == 0;
-}
-
-static struct state before, after;
+/* What is there before a call and after it, and what it leaves where it is refused nothing. */
+static struct state before, after, wanted;
 
 /* ---- Calls ---- */
 
-enum kind { INSTALL, OPEN, REGISTER, UNINSTALL, UNINSTALL_ALL, REINSTALL, CONNECT, DISCONNECT };
+enum kind {
+    INSTALL,
+    INSTALL_MANY,
+    OPEN,
+    REGISTER,
+    UNINSTALL,
+    UNINSTALL_ALL,
+    REINSTALL,
+    CONNECT,
+    DISCONNECT
+};
 
-/* A call: what it names beside its kind. */
+/* A call: what it names beside its kind. One that installs many interfaces has as many GUIDs as its
+ * number says, of one byte after the other. */
 struct call {
     enum kind kind;
     uint64_t handle;
@@ -125,6 +48,26 @@ struct call {
 
 /* The numbers of the next handle and of the next registration of a core, which no refusal takes. */
 static uint64_t handles, registrations;
+
+/* Whether an installation on a handle, or on a new one where it is 0, has set it as it should. */
+static bool is_installed(uint64_t status, uint64_t handle, uint64_t given)
+{
+    if (status != SUCCESS || handle != 0)
+        return given == handle;
+    return given == handles++;
+}
+
+static uint64_t install_many(struct rafkudin *core, const struct call *call)
+{
+    struct rafkudin_interface interfaces[16];
+    uint64_t handle = call->handle, status;
+
+    for (size_t at = 0; at < call->number; at++)
+        interfaces[at] = (struct rafkudin_interface){guid_of((uint8_t)(call->guid + at)), at};
+    status = RafkudinInstallMultipleProtocolInterfaces(core, &handle, interfaces, call->number);
+    HOLDS(is_installed(status, call->handle, handle));
+    return status;
+}
 
 /* Uninstalls all interfaces on a handle in one call, in order of installation. */
 static uint64_t uninstall_all(struct rafkudin *core, uint64_t handle)
@@ -146,9 +89,10 @@ static uint64_t make(struct rafkudin *core, const struct call *call)
     switch (call->kind) {
     case INSTALL:
         status = RafkudinInstallProtocolInterface(core, &handle, &guid, 0, call->number);
-        HOLDS(status != SUCCESS || call->handle != 0 || handle == handles++);
-        HOLDS(status == SUCCESS || handle == call->handle);
+        HOLDS(is_installed(status, call->handle, handle));
         return status;
+    case INSTALL_MANY:
+        return install_many(core, call);
     case OPEN:
         return RafkudinOpenProtocol(core, handle, &guid, &value, call->number, 0, call->attributes);
     case REGISTER:
@@ -195,27 +139,59 @@ static unsigned long refusals_of(struct rafkudin *core, struct call call)
     return 0;
 }
 
-/* The same with each allocation alone refused, on a core that is made anew each time: std may ask
- * again for less, and then the call is served. */
-static void refuse_alone(struct rafkudin *(*made)(void), struct call call)
+/* Makes a call with one allocation refused, alone or with all after it, on a core that is made
+ * anew, which is as `before` says: lists that a refused call lets grow skip no allocation so. Where
+ * one alone is refused, std may ask again for less, and then the call is served. The answer is
+ * whether an allocation was refused. */
+static bool is_out_at(struct rafkudin *(*made)(void), struct call call, unsigned long number,
+                      bool is_alone)
 {
-    for (unsigned long number = 1; number < 1000; number++) {
-        struct rafkudin *core = made();
-        uint64_t status;
+    struct rafkudin *core = made();
+    uint64_t status;
 
-        take_state(&before, core);
-        refuse(number, number);
-        status = make(core, &call);
-        refuse_none();
-        take_state(&after, core);
-        HOLDS(status == SUCCESS || (was_refused && status == RAFKUDIN_OUT_OF_RESOURCES));
-        HOLDS(are_same(&before, &after) == (status != SUCCESS));
-        HOLDS(status == SUCCESS || make(core, &call) == SUCCESS);
-        RafkudinFree(core);
-        if (!was_refused)
-            return;
+    refuse(number, is_alone ? number : ULONG_MAX);
+    status = make(core, &call);
+    refuse_none();
+    take_state(&after, core);
+    HOLDS(status == (was_refused ? RAFKUDIN_OUT_OF_RESOURCES : SUCCESS) ||
+          (is_alone && status == SUCCESS));
+    HOLDS(are_same(&before, &after) == (status != SUCCESS));
+    HOLDS(status == SUCCESS || make(core, &call) == SUCCESS);
+    take_end(&after, core);
+    HOLDS(are_same(&wanted, &after));
+    RafkudinFree(core);
+    return was_refused;
+}
+
+/* Makes a call where it is refused nothing. */
+static void take_wanted(struct rafkudin *(*made)(void), struct call call)
+{
+    struct rafkudin *core = made();
+
+    succeed(core, call);
+    take_end(&wanted, core);
+    RafkudinFree(core);
+}
+
+/* Makes a call with each of its allocations refused, in all three ways. The answer is how many
+ * there are. */
+static unsigned long try_call(struct rafkudin *(*made)(void), struct call call)
+{
+    struct rafkudin *core;
+    unsigned long number = 1;
+
+    take_wanted(made, call);
+    core = made();
+    refusals_of(core, call);
+    take_end(&after, core);
+    HOLDS(are_same(&wanted, &after));
+    RafkudinFree(core);
+    while (number < 1000 && is_out_at(made, call, number, false)) {
+        is_out_at(made, call, number, true);
+        number++;
     }
-    HOLDS(!"a call is refused for ever");
+    HOLDS(number < 1000 && in_use == 0);
+    return number - 1;
 }
 
 /* ---- Lists that grow ---- */
@@ -252,6 +228,37 @@ static void refuse_installations(bool is_one_handle)
                      : refusals_of(core, (struct call){INSTALL, 0, 1, 5, 0});
     HOLDS(count >= 20);
     RafkudinFree(core);
+}
+
+/* Calls that install several interfaces each, 50 times: on new handles, of the same GUIDs and of
+ * new ones; on one handle; and on one handle after the other. */
+static void refuse_long_installations(void)
+{
+    static const struct {
+        struct call first;
+        uint8_t guids, handles; /* how far those of a call are from those of the one before */
+    } rows[] = {
+        {{INSTALL_MANY, 0, 2, 5, 0}, 0, 0},
+        {{INSTALL_MANY, 0, 2, 3, 0}, 3, 0},
+        {{INSTALL_MANY, 1, 2, 4, 0}, 4, 0},
+        {{INSTALL_MANY, 1, 2, 5, 0}, 0, 1},
+    };
+
+    for (size_t row = 0; row < COUNT(rows); row++) {
+        struct rafkudin *core = plain_core();
+        struct call call = rows[row].first;
+        unsigned long count = 0;
+
+        for (unsigned time = 0; time < 50; time++)
+            succeed(core, (struct call){INSTALL, 0, DRIVEN, 0, 0});
+        for (unsigned time = 0; time < 50; time++) {
+            count += refusals_of(core, call);
+            call.guid = (uint8_t)(call.guid + rows[row].guids);
+            call.handle += rows[row].handles;
+        }
+        HOLDS(count >= 20);
+        RafkudinFree(core);
+    }
 }
 
 /* Opens of seven interfaces by each agent: with its seventh open item an agent takes memory of its
@@ -356,6 +363,182 @@ static void refuse_reinstallations(uint8_t child, uint64_t handles)
     RafkudinFree(core);
 }
 
+/* ---- Several interfaces at once ---- */
+
+/* Handles with three, four and five interfaces, one with another GUID, and events for two GUIDs. */
+static struct rafkudin *installed(void)
+{
+    struct rafkudin *core = plain_core();
+
+    for (uint64_t count = 3; count < 6; count++)
+        succeed(core, (struct call){INSTALL_MANY, 0, 1, count, 0});
+    succeed(core, (struct call){INSTALL, 0, 9, 0, 0});
+    succeed(core, (struct call){REGISTER, 0, 4, 1, 0});
+    succeed(core, (struct call){REGISTER, 0, 21, 2, 0});
+    return core;
+}
+
+/* The keys of a handle's interfaces take memory of their own from the fifth on. GUIDs from 1 to 5
+ * and 9 are on handles, those from 20 on are on none. */
+static void refuse_several_installations(void)
+{
+    static const struct call rows[] = {
+        {INSTALL_MANY, 0, 1, 2, 0},   {INSTALL_MANY, 0, 1, 5, 0},  /* on a new handle */
+        {INSTALL_MANY, 0, 20, 4, 0},  {INSTALL_MANY, 0, 3, 6, 0},  /* also of new GUIDs */
+        {INSTALL_MANY, 0, 20, 16, 0}, {INSTALL_MANY, 4, 3, 3, 0},  /* on one that is there */
+        {INSTALL_MANY, 4, 20, 5, 0},  {INSTALL_MANY, 1, 4, 2, 0},  /* a fourth and a fifth */
+        {INSTALL_MANY, 2, 5, 1, 0},   {INSTALL_MANY, 2, 20, 3, 0}, /* a fifth */
+        {INSTALL_MANY, 2, 5, 12, 0},  {INSTALL_MANY, 3, 6, 4, 0},  /* behind a fifth */
+    };
+
+    for (size_t row = 0; row < COUNT(rows); row++)
+        HOLDS(try_call(installed, rows[row]) > 0);
+}
+
+/* ---- Children ---- */
+
+/* How many children each of two drivers makes. */
+static size_t first_children, second_children;
+
+/* A controller on which the first driver has started, if it makes any child, and the second has
+ * not. There is an event for the children. */
+static struct rafkudin *family(void)
+{
+    struct rafkudin_driver drivers[2] = {driver_for(2, 1, 1), driver_for(1, 2, 2)};
+    struct rafkudin *core;
+
+    for (size_t child = 0; child < first_children; child++)
+        add_child(&drivers[0], 3, child);
+    for (size_t child = 0; child < second_children; child++)
+        add_child(&drivers[1], 3, child);
+    core = core_with(drivers, 2);
+    succeed(core, (struct call){INSTALL_MANY, 0, 1, 2, 0});
+    succeed(core, (struct call){INSTALL, 0, BINDING, 0, 0});
+    succeed(core, (struct call){REGISTER, 0, 3, 4, 0});
+    if (first_children > 0)
+        succeed(core, (struct call){CONNECT, 1, 0, 0, 0});
+    handles += first_children;
+    succeed(core, (struct call){INSTALL, 0, BINDING, 1, 0});
+    return core;
+}
+
+/* The same once the second driver has started too. */
+static struct rafkudin *whole_family(void)
+{
+    struct rafkudin *core = family();
+
+    succeed(core, (struct call){CONNECT, 1, 0, 0, 0});
+    return core;
+}
+
+/* The children of a controller take memory of their own from the seventh on: the next one behind
+ * six takes more than the one behind five. It is also the last one of seven that are made at once,
+ * and one of eight. */
+static void refuse_seventh_children(void)
+{
+    static const size_t rows[][2] = {{5, 1}, {6, 1}, {0, 7}, {6, 8}, {3, 8}, {7, 1}, {8, 8}};
+    unsigned long counts[COUNT(rows)];
+
+    for (size_t row = 0; row < COUNT(rows); row++) {
+        first_children = rows[row][0];
+        second_children = rows[row][1];
+        counts[row] = try_call(family, (struct call){CONNECT, 1, 0, 0, 0});
+        HOLDS(try_call(whole_family, (struct call){REINSTALL, 1, 2, 1, 0}) > 0);
+        HOLDS(try_call(whole_family, (struct call){DISCONNECT, 1, 0, 0, 0}) > 0);
+    }
+    HOLDS(counts[1] > counts[0] && counts[0] > 0);
+}
+
+/* A table in which no handle more can be made. On one controller a driver has made seven children,
+ * on each of which another has started. There are events for all these, and other items. */
+static struct rafkudin *full_table(void)
+{
+    struct rafkudin_driver drivers[2] = {driver_for(2, DRIVEN, DRIVEN), driver_for(1, 3, 3)};
+    struct rafkudin *core;
+
+    for (uint64_t child = 0; child < 7; child++)
+        add_child(&drivers[0], 3, child);
+    core = core_with(drivers, 2);
+    succeed(core, (struct call){INSTALL, 0, DRIVEN, 5, 0});
+    succeed(core, (struct call){INSTALL, 0, BINDING, 0, 0});
+    succeed(core, (struct call){INSTALL, 0, BINDING, 1, 0});
+    succeed(core, (struct call){REGISTER, 0, 3, 4, 0});
+    succeed(core, (struct call){REGISTER, 0, DRIVEN, 5, 0});
+    succeed(core, (struct call){CONNECT, 1, 0, 0, 0});
+    for (handles += 7; handles <= RAFKUDIN_MAX_HANDLES;)
+        succeed(core, (struct call){INSTALL, 0, (uint8_t)(4 + handles % 4), handles, 0});
+    for (uint64_t handle = 12; handle <= RAFKUDIN_MAX_HANDLES; handle += 300) {
+        succeed(core, (struct call){OPEN, 1, DRIVEN, handle, RAFKUDIN_GET_PROTOCOL});
+        succeed(core, (struct call){OPEN, handle, (uint8_t)(4 + handle % 4), 11,
+                                    RAFKUDIN_GET_PROTOCOL});
+    }
+    return core;
+}
+
+/* The children that a driver makes anew have no room beside those that go, so the core copies all
+ * handles. */
+static void refuse_on_full_table(void)
+{
+    struct call reinstall = {REINSTALL, 1, DRIVEN, 5, 0};
+    struct rafkudin *core = full_table();
+    struct rafkudin_guid guid = guid_of(7);
+    uint64_t handle = 0;
+
+    HOLDS(RafkudinHandle(core, RAFKUDIN_MAX_HANDLES - 1, &handle) == SUCCESS);
+    handle = 0;
+    HOLDS(RafkudinInstallProtocolInterface(core, &handle, &guid, 0, 0) ==
+          RAFKUDIN_OUT_OF_RESOURCES);
+    succeed(core, reinstall);
+    HOLDS(RafkudinHandle(core, RAFKUDIN_MAX_HANDLES - 1, &handle) == SUCCESS);
+    HOLDS(handle == RAFKUDIN_MAX_HANDLES + 7);
+    RafkudinFree(core);
+    HOLDS(try_call(full_table, reinstall) > 0);
+}
+
+/* The child of a driver is a driver handle, whose driver has started on the controller and on
+ * another handle, and has made a child on each. */
+static struct rafkudin *made_driver(void)
+{
+    struct rafkudin_driver drivers[2] = {driver_for(2, 1, 1), driver_for(1, 2, 2)};
+    struct rafkudin *core;
+
+    add_child(&drivers[0], BINDING, 1);
+    add_child(&drivers[1], 4, 9);
+    core = core_with(drivers, 2);
+    succeed(core, (struct call){INSTALL_MANY, 0, 1, 2, 0});
+    succeed(core, (struct call){INSTALL, 0, BINDING, 0, 0});
+    succeed(core, (struct call){INSTALL, 0, 2, 6, 0});
+    succeed(core, (struct call){REGISTER, 0, BINDING, 4, 0});
+    succeed(core, (struct call){REGISTER, 0, 1, 5, 0});
+    for (uint64_t handle = 1; handle < 4; handle += 2)
+        succeed(core, (struct call){CONNECT, handle, 0, 0, 0});
+    succeed(core, (struct call){CONNECT, 1, 0, 0, 0});
+    return core;
+}
+
+/* What is there before and after the driver handle goes, by hand: its items go with it. */
+static void try_made_driver_by_hand(void)
+{
+    struct rafkudin *core = made_driver();
+    struct rafkudin_guid binding = guid_of(BINDING), two = guid_of(2);
+    struct rafkudin_item item;
+    uint64_t found[8], count = 0;
+
+    HOLDS(RafkudinHoldersInto(core, &binding, found, 8, &count) == SUCCESS && count == 2);
+    HOLDS(found[0] == 2 && found[1] == 4);
+    HOLDS(RafkudinOpenItem(core, 1, &two, 0, &item) == SUCCESS && item.agent == 4);
+    HOLDS(RafkudinOpenItem(core, 3, &two, 0, &item) == SUCCESS && item.agent == 4);
+    HOLDS(RafkudinChildren(core, 3, 4, found, 8, &count) == SUCCESS && count == 1 && found[0] == 5);
+    succeed(core, (struct call){REINSTALL, 1, 1, 0, 0});
+    HOLDS(RafkudinHandlesInto(core, found, 8, &count) == SUCCESS && count == 6);
+    HOLDS(found[3] == 5 && found[4] == 6 && found[5] == 7);
+    HOLDS(RafkudinHoldersInto(core, &binding, found, 8, &count) == SUCCESS && count == 2);
+    HOLDS(found[0] == 2 && found[1] == 7);
+    HOLDS(RafkudinOpenItem(core, 1, &two, 0, &item) == RAFKUDIN_NOT_FOUND);
+    HOLDS(RafkudinOpenItem(core, 3, &two, 0, &item) == RAFKUDIN_NOT_FOUND);
+    RafkudinFree(core);
+}
+
 /* ---- Drivers that start and stop while less and less memory is there ---- */
 
 /* A controller with two GUIDs, two drivers that open one of them each and make children, one of
@@ -396,17 +579,10 @@ static struct rafkudin *opened_controller(void)
     return core;
 }
 
-/* What a call leaves where memory is there: handles, and the pairs that manage the controller. */
-static void take_whole(struct state *state, const struct rafkudin *core)
-{
-    take_state(state, core);
-    push_children(state, core, 9, 3);
-}
-
 /* Makes a call while this many bytes more can be in use, and again with enough memory if it is
  * refused. The answer is whether it was refused. */
 static bool is_refused_with(struct rafkudin *(*made)(void), struct call call, size_t bytes,
-                            const struct state *wanted, bool may_grow)
+                            bool may_grow)
 {
     struct rafkudin *core = made();
     struct rafkudin_guid one = guid_of(1);
@@ -415,7 +591,7 @@ static bool is_refused_with(struct rafkudin *(*made)(void), struct call call, si
 
     /* The reply to a call that takes no memory is kept in place of the last one. */
     HOLDS(RafkudinHandleProtocol(core, 1, &one, &value) == SUCCESS);
-    take_whole(&before, core);
+    take_state(&before, core);
     used = in_use;
     refuse(0, 0);
     most_bytes = used + bytes;
@@ -425,12 +601,12 @@ static bool is_refused_with(struct rafkudin *(*made)(void), struct call call, si
         HOLDS(status == RAFKUDIN_OUT_OF_RESOURCES && was_refused);
         /* A copy of the lists that is put back may take less memory than they did. */
         HOLDS(in_use == used || may_grow || (call.kind == UNINSTALL_ALL && in_use < used));
-        take_whole(&after, core);
+        take_state(&after, core);
         HOLDS(are_same(&before, &after));
         HOLDS(make(core, &call) == SUCCESS);
     }
-    take_whole(&after, core);
-    HOLDS(are_same(wanted, &after));
+    take_end(&after, core);
+    HOLDS(are_same(&wanted, &after));
     RafkudinFree(core);
     HOLDS(in_use == 0);
     return status != SUCCESS;
@@ -440,15 +616,11 @@ static bool is_refused_with(struct rafkudin *(*made)(void), struct call call, si
  * core whose lists may have grown leaves that memory with them. */
 static void try_amounts(struct rafkudin *(*made)(void), struct call call, bool may_grow)
 {
-    static struct state wanted;
-    struct rafkudin *core = made();
     unsigned refusals = 0, last = 0;
 
-    succeed(core, call);
-    take_whole(&wanted, core);
-    RafkudinFree(core);
+    take_wanted(made, call);
     for (unsigned row = 0; row < 4096; row++)
-        if (is_refused_with(made, call, 8 * (size_t)row, &wanted, may_grow)) {
+        if (is_refused_with(made, call, 8 * (size_t)row, may_grow)) {
             refusals++;
             last = row;
         }
@@ -490,12 +662,25 @@ static void try_drivers(void)
     try_amounts(managed_controller, uninstall, false);
     try_amounts(managed_controller, uninstall_both, false);
     try_amounts(managed_controller, reinstall, true);
-    refuse_alone(free_controller, connect);
-    refuse_alone(managed_controller, disconnect);
-    refuse_alone(opened_controller, stop);
-    refuse_alone(managed_controller, uninstall);
-    refuse_alone(managed_controller, uninstall_both);
-    refuse_alone(managed_controller, reinstall);
+    HOLDS(try_call(free_controller, connect) > 0);
+    HOLDS(try_call(managed_controller, disconnect) > 0);
+    HOLDS(try_call(opened_controller, stop) > 0);
+    HOLDS(try_call(managed_controller, uninstall) > 0);
+    HOLDS(try_call(managed_controller, uninstall_both) > 0);
+    HOLDS(try_call(managed_controller, reinstall) > 0);
+}
+
+/* Calls by which a handle goes that is a driver's own. For a ReinstallProtocolInterface the core
+ * copies all handles then. */
+static void try_made_driver(void)
+{
+    struct call reinstall = {REINSTALL, 1, 1, 0, 0};
+
+    try_made_driver_by_hand();
+    try_amounts(made_driver, reinstall, true);
+    HOLDS(try_call(made_driver, reinstall) > 0);
+    HOLDS(try_call(made_driver, (struct call){UNINSTALL, 1, 1, 0, 0}) > 0);
+    HOLDS(try_call(made_driver, (struct call){DISCONNECT, 1, 0, 2, 0}) > 0);
 }
 
 /* A driver that was started and stopped on each of many handles, one after the other, leaves no more
@@ -523,6 +708,8 @@ int main(void)
 {
     refuse_installations(false);
     refuse_installations(true);
+    refuse_long_installations();
+    refuse_several_installations();
     refuse_opens();
     refuse_registrations();
     refuse_uninstallations();
@@ -530,7 +717,10 @@ int main(void)
     refuse_reinstallations(0, ROUNDS);
     refuse_reinstallations(3, ROUNDS);
     refuse_reinstallations(BINDING, 10);
+    refuse_seventh_children();
+    refuse_on_full_table();
     try_drivers();
+    try_made_driver();
     try_leftovers();
     return points_end("refused_handles");
 }
