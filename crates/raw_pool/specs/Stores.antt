@@ -80,7 +80,7 @@ abbrev pub bytes_with_run : {A : Type 0} → Store A → ℕ → ℕ → ℕ →
 bytes_with_run s run cells next =
     record { set = with_run s.region.bytes.set run cells next; room = s.region.bytes.room }
 
--- the end of the cells of a cell's page
+-- where the page of a cell ends, in cells
 abbrev pub page_end : ℕ → ℕ → ℕ
 page_end cells cell = min cells ((cell / 128 + 1) * 128)
 

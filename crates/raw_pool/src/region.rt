@@ -198,7 +198,7 @@ impl<A: Allocator> Region<A> {
         self.marks.overwrite(cell, mark);
     }
 
-    /// Sets the mark of a cell, and those up to `end`, which is behind it, that are not set yet to 0.
+    /// Sets the mark of a cell. The marks before `end` that are not set yet become 0.
     pub(crate) fn put_mark(&mut self, cell: usize, end: usize, mark: u8)
         requires { (cell < end) × (end ≤ self.old.marks.room) }
         ensures marks { self.new.marks

@@ -104,7 +104,7 @@ impl RawBytes {
         self.bytes_mut()[at] = byte;
     }
 
-    /// Sets the byte at an index, and those up to `end`, which is behind it, that are not set yet to 0.
+    /// Sets the byte at an index. The bytes before `end` that are not set yet become 0.
     pub(crate) fn put(&mut self, at: usize, end: usize, byte: u8)
         requires { (at < end) × (end ≤ self.old.room) }
         ensures set { self.new.set ≡ put (extended self.old.set end) at (byte ∷ []) }
