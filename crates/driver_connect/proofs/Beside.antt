@@ -182,7 +182,7 @@ at_stays : (ns : List ℕ) (n : ℕ) (guid : List ℕ) (i : Interface) → is_at
 at_stays ns n guid i h = ap (λ (m : ℕ). not (is_one_of ns m)) (at_handle n guid i h)
 
 -- what is found on a handle that stays
-found_beside : (ns : List ℕ) (t : HandleTable) (n : ℕ) (guid : List ℕ) → interface_at (without_handles ns t) n guid ≡ cond (not (is_one_of ns n)) (interface_at t n guid) None
+pub found_beside : (ns : List ℕ) (t : HandleTable) (n : ℕ) (guid : List ℕ) → interface_at (without_handles ns t) n guid ≡ cond (not (is_one_of ns n)) (interface_at t n guid) None
 found_beside ns t n guid = find_filter (is_at n guid) (λ (i : Interface). not (is_one_of ns i.handle)) (not (is_one_of ns n)) (at_stays ns n guid) t.interfaces
 
 -- what is carried beside the others is on a handle that stays
@@ -253,7 +253,7 @@ on_stays ns n h i k = elim (eqb_tells i.handle n) [
 pub shown_beside : (ns : List ℕ) (t : HandleTable) (opens : List OpenRecord) (n : ℕ) → is_one_of ns n ≡ false → protocols_on (without_handles ns t) opens n ≡ protocols_on t opens n
 shown_beside ns t opens n h = ap (map (protocol_view opens)) (filter_inside (λ (i : Interface). not (is_one_of ns i.handle)) (is_on n) (on_stays ns n h) t.interfaces)
 
-none_on : (ns : List ℕ) (n : ℕ) → is_one_of ns n ≡ true → (is : List Interface) → filter (is_on n) (filter (λ (i : Interface). not (is_one_of ns i.handle)) is) ≡ []
+pub none_on : (ns : List ℕ) (n : ℕ) → is_one_of ns n ≡ true → (is : List Interface) → filter (is_on n) (filter (λ (i : Interface). not (is_one_of ns i.handle)) is) ≡ []
 none_on ns n h [] = refl
 none_on ns n h (i ∷ is) = elim (eqb_tells i.handle n) [
   | inl t ↦ rw t.1 (rw h (none_on ns n h is))

@@ -11,7 +11,6 @@ pub mod TriedOnce
 pub mod Whole
 pub mod NoPairs
 pub mod PlannedStops
-pub mod AfterStops
 pub mod StopSets
 pub mod PairMembers
 pub mod MadeHandles
@@ -30,6 +29,8 @@ pub mod TurnSteps
 pub mod StopsInOrder
 pub mod GoingOn
 pub mod Beside
+pub mod LeavingAgents
+pub mod AfterStops
 pub mod Restamped
 pub mod OnePair
 pub mod Lives

@@ -1,6 +1,6 @@
 -- Drivers that would be started on a handle, and their starts carried out, on the lists as they
 -- are.
-use Rattle.std.specs.Prelude.{ℕ, ◌&&◌, not, Bool, cond, List}
+use Rattle.std.specs.Prelude.{◌≡◌, ℕ, ◌&&◌, not, Bool, cond, List, length, map}
 use Rattle.std.specs.List.{list_any}
 use Rattle.guid_handles.specs.HandleTables.{HandleTable, same_guid}
 use Rattle.open_agents.specs.declared.items.OpenRecord.{OpenRecord}
@@ -16,6 +16,20 @@ is_ready ds t protocols n a =
     supports_at ds a.driver (record { agent = a.handle; controller = n; protocols = protocols })
     && can_start t protocols
     (plan_at ds a.driver (record { agent = a.handle; controller = n; protocols = protocols }))
+
+-- an answer says whether an agent is ready in any table with a number of handles
+abbrev pub TellsReady : {D : Type 0} → (D → Meaning) → List D → ℕ → List ProtocolView → ℕ → Agent
+    → Bool → Type 0
+TellsReady meaning drivers count protocols n a ready =
+    (t : HandleTable) → count ≡ length t.handles
+    → ready ≡ is_ready (map meaning drivers) t protocols n a
+
+-- and whether one of some agents is
+abbrev pub TellsAnyReady : {D : Type 0} → (D → Meaning) → List D → ℕ → List ProtocolView → ℕ
+    → List Agent → Bool → Type 0
+TellsAnyReady meaning drivers count protocols n agents ready =
+    (t : HandleTable) → count ≡ length t.handles
+    → ready ≡ list_any (is_ready (map meaning drivers) t protocols n) agents
 
 -- one of the drivers to be tried on a handle is ready
 abbrev pub is_any_ready : List Meaning → HandleTable → List OpenRecord → ℕ → List ℕ → Bool

@@ -56,7 +56,7 @@ pub(crate) fn may_stop_at<D: Driver>(drivers: &[D], place: u64, view: &View) -> 
 }
 
 /// The version of the driver at a place.
-fn version_at<D: Driver>(drivers: &[D], place: u64) -> u32
+pub(crate) fn version_at<D: Driver>(drivers: &[D], place: u64) -> u32
     ensures { result ≡ spec.version_at (map D.meaning drivers.now) place }
 {
     if place < drivers.len() as u64 {

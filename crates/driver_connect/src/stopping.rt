@@ -268,10 +268,10 @@ impl<A: Allocator + Copy> StopPlan<A> {
     }
 
     /// Whether the stop removes a handle.
-    pub fn takes_handles(&self) -> bool
-        ensures { result ≡ false → self.now.handles ≡ [] }
+    pub(crate) fn takes_handle(&self, handle: u64) -> bool
+        ensures { result ≡ spec.is_one_of self.now.handles handle }
     {
-        !self.handles.is_empty()
+        self.handles.iter().any(|n| handle == *n)
     }
 
     /// Whether the stop removes the items of an agent and a controller on a handle.
