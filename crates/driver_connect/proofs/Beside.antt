@@ -1,26 +1,24 @@
 -- A connect beside handles that go once it is done comes as far as one without them.
-use Rattle.std.proofs.Common.{◌≡◌, ℕ, ◌+◌, ◌<◌, ◌≤◌, ◌==◌, nat_lt, not, Bool, true, false, cond, List, [], ◌∷◌, ◌++◌, map, length, Option, Some, None, is_some, inl, inr, refl, sym, ap, ◌∙◌, arith}
-use Rattle.std.specs.List.{filter, find, list_any, AllByRecursion}
-use Rattle.std.specs.Option.{option_map}
+use Rattle.std.proofs.Common.{◌≡◌, ℕ, ◌+◌, ◌<◌, ◌≤◌, ◌==◌, nat_lt, not, Bool, true, false, cond, List, [], ◌∷◌, ◌++◌, map, length, Some, None, is_some, inl, inr, refl, sym, ap, ◌∙◌, arith}
+use Rattle.std.specs.List.{filter, AllByRecursion}
 use Rattle.std.proofs.lemmas.Bool.{cases_Bool, le-ltb, ne_eqb}
 use Rattle.std.proofs.lemmas.List.{length-append}
 use Rattle.std.proofs.lemmas.Bool.Decides.{eqb_tells}
 use Rattle.guid_handles.specs.declared.records.Interface.{Interface}
 use Rattle.guid_handles.specs.declared.records.LiveHandle.{LiveHandle}
 use Rattle.guid_handles.specs.declared.records.Maker.{Maker}
-use Rattle.guid_handles.specs.HandleTables.{HandleTable, carries, interface_at, is_at, is_on, numbers, value_at}
+use Rattle.guid_handles.specs.HandleTables.{HandleTable, carries, interface_at, is_at, is_on, numbers}
 use Rattle.guid_handles.specs.HandleChanges.{IsHandleTable, stamped}
 use Rattle.guid_handles.proofs.Filters.{filter_append, filter_inside}
 use Rattle.guid_handles.proofs.Indexed.{at_handle}
-use Rattle.guid_handles.proofs.SortedLists.{all_filter, all_map, all_of, filter_map_filter, filter_same, find_filter, find_none}
+use Rattle.guid_handles.proofs.SortedLists.{all_filter, all_map, ascending_filter, filter_map_filter, find_filter}
 use Rattle.open_agents.specs.declared.items.Manager.{Manager}
 use Rattle.open_agents.specs.declared.items.OpenRecord.{OpenRecord}
-use Rattle.driver_connect.specs.declared.agents.Agent.{Agent}
 use Rattle.driver_connect.specs.Beside.{Draft, MayLeave, first_draft, reached}
 use Rattle.driver_connect.specs.Connecting.{ConnectsBelow, connected_below, first_progress, made_after}
-use Rattle.driver_connect.specs.Drivers.{Meaning, driver_binding, protocol_view, protocols_on}
+use Rattle.driver_connect.specs.Drivers.{protocol_view, protocols_on}
 use Rattle.driver_connect.specs.GoingOn.{HasMade}
-use Rattle.driver_connect.specs.Starting.{Progress, Site, agents_for, by_version, other, others, others_among, with_all_named, with_child, with_children, with_named}
+use Rattle.driver_connect.specs.Starting.{Progress, Site, with_child, with_children}
 use Rattle.driver_connect.specs.Stopping.{is_made_by, is_one_of, made_by, without_handles}
 use Rattle.driver_connect.proofs.Filters.{handles_none}
 
@@ -72,26 +70,6 @@ children_beside ns maker (pairs ∷ children) t h =
     children_beside ns maker children (with_child maker pairs t) (all_map (λ n. n ≤ t.last_number) (λ n. n ≤ t.last_number + 1) (λ n l. omega (arith, l)) ns h)
     ∙ ap (with_children maker children) (child_beside ns maker pairs t h)
 
--- ---- what is on a handle
-
-found_before : {X : Type 0} (p : X → Bool) (xs ys : List X) → AllByRecursion (λ y. p y ≡ false) ys → is_some (find p (xs ++ ys)) ≡ is_some (find p xs)
-found_before p [] ys h = ap is_some (find_none p ys h)
-found_before p (x ∷ xs) ys h = elim (cases_Bool (p x)) [
-  | inl e ↦ rw e refl
-  | inr e ↦ rw e (found_before p xs ys h)
-]
-
-on_others : (n last : ℕ) (guid : List ℕ) → n ≤ last → (is : List Interface) → AllByRecursion (λ i. last < i.handle) is → AllByRecursion (λ i. is_at n guid i ≡ false) is
-on_others n last guid l is h = all_map (λ i. last < i.handle) (λ i. is_at n guid i ≡ false) (λ i k. let e : (i.handle == n) ≡ false = ne_eqb i.handle n (λ e. omega (arith, e, k, l)) in rw e refl) is h
-
-carries_before : (t u : HandleTable) → HasMade t u → (guid : List ℕ) (n : ℕ) → n ≤ t.last_number → carries u guid n ≡ carries t guid n
-carries_before t u m guid n l =
-    ap (λ (is : List Interface). is_some (find (is_at n guid) is)) m.interfaces ∙ found_before (is_at n guid) t.interfaces m.installed (on_others n t.last_number guid l m.installed m.on_later)
-
-both : {P Q : ℕ → Type 0} {R : ℕ → Type 0} → ((n : ℕ) → P n → Q n → R n) → (ns : List ℕ) → AllByRecursion P ns → AllByRecursion Q ns → AllByRecursion R ns
-both f [] a b = tt
-both f (n ∷ ns) a b = (f n a.0 b.0, both f ns a.1 b.1)
-
 length_on : {X : Type 0} (xs ys zs : List X) (k : ℕ) → length xs + k ≡ length ys → length (xs ++ zs) + k ≡ length (ys ++ zs)
 length_on xs ys zs k e = rw (length-append xs zs, length-append ys zs) (omega (arith, e))
 
@@ -99,9 +77,9 @@ length_on xs ys zs k e = rw (length-append xs zs, length-append ys zs) (omega (a
 pub may_leave_on : (ns : List ℕ) (t u : HandleTable) → HasMade t u → MayLeave ns t → MayLeave ns u
 may_leave_on ns t u m h =
     let made = made_beside ns t u m h.given in record {
+      ascending = h.ascending;
       given = all_map (λ n. n ≤ t.last_number) (λ n. n ≤ u.last_number) (λ n l. omega (arith, l, m.number)) ns h.given;
       count = rw (made.0, m.handles) (length_on (without_handles ns t).handles t.handles m.made (length ns) h.count);
-      undriven = both {P = λ n. n ≤ t.last_number} {Q = λ n. carries t driver_binding n ≡ false} {R = λ n. carries u driver_binding n ≡ false} (λ n l e. carries_before t u m driver_binding n l ∙ e) ns h.given h.undriven;
     }
 
 -- ---- which may stay
@@ -110,7 +88,7 @@ plus_none : (n : ℕ) → n + 0 ≡ n
 plus_none n = omega arith
 
 pub may_leave_none : (t : HandleTable) → MayLeave [] t
-may_leave_none t = record { given = tt; count = ap (λ (u : HandleTable). length u.handles + 0) (sym (handles_none t)) ∙ plus_none (length t.handles); undriven = tt }
+may_leave_none t = record { ascending = tt; given = tt; count = ap (λ (u : HandleTable). length u.handles + 0) (sym (handles_none t)) ∙ plus_none (length t.handles) }
 
 none_of : (p : ℕ → Bool) (n : ℕ) → p n ≡ false → (ns : List ℕ) → is_one_of (filter p ns) n ≡ false
 none_of p n h [] = refl
@@ -161,22 +139,15 @@ parted p ms (h ∷ hs) a =
       | inr e ↦ let o : is_one_of (filter p ms) h.number ≡ false = none_of p h.number e ms in rw o (rw e (omega (arith, rest)))
     ]
 
-none_passes : (p : ℕ → Bool) (ns : List ℕ) → list_any p ns ≡ false → AllByRecursion (λ n. p n ≡ false) ns
-none_passes p [] h = tt
-none_passes p (n ∷ ns) h = elim (cases_Bool (p n)) [
-  | inl e ↦ absurd (let k : true ≡ false = rw e at h in cc)
-  | inr e ↦ (e, none_passes p ns (rw e at h))
-]
-
 -- the handles that some pairs made may stay
-pub may_leave_made : (t : HandleTable) (pairs : List Manager) (ns : List ℕ) → IsHandleTable t → ns ≡ made_by t pairs → list_any (λ n. carries t driver_binding n) ns ≡ false → MayLeave ns t
-may_leave_made t pairs ns proper e h = record {
+pub may_leave_made : (t : HandleTable) (pairs : List Manager) (ns : List ℕ) → IsHandleTable t → ns ≡ made_by t pairs → MayLeave ns t
+may_leave_made t pairs ns proper e = record {
+  ascending = rw e (ascending_filter (λ a b. a < b) (is_made_by t pairs) (numbers t) proper.ascending);
   given = rw e (all_filter (λ n. n ≤ t.last_number) (is_made_by t pairs) (numbers t) (all_map (λ n. (0 < n) × (n ≤ t.last_number)) (λ n. n ≤ t.last_number) (λ n g. g.1) (numbers t) proper.given));
   count = rw e (parted (is_made_by t pairs) (numbers t) t.handles (each_one_of (numbers t)));
-  undriven = none_passes (λ n. carries t driver_binding n) ns h;
 }
 
--- ---- what is on a handle, and the drivers
+-- ---- what is on a handle
 
 at_stays : (ns : List ℕ) (n : ℕ) (guid : List ℕ) (i : Interface) → is_at n guid i ≡ true → not (is_one_of ns i.handle) ≡ not (is_one_of ns n)
 at_stays ns n guid i h = ap (λ (m : ℕ). not (is_one_of ns m)) (at_handle n guid i h)
@@ -200,48 +171,6 @@ one_of_all P n (m ∷ ms) a h = elim (eqb_tells n m) [
   | inl t ↦ rw t.1 a.0
   | inr f ↦ one_of_all P n ms a.1 (rw f.0 at h)
 ]
-
-unfound : (o : Option Interface) → is_some o ≡ false → o ≡ None
-unfound None h = refl
-unfound (Some i) h = absurd cc
-
-binding_beside : (ns : List ℕ) (t : HandleTable) → MayLeave ns t → (n : ℕ) → interface_at (without_handles ns t) n driver_binding ≡ interface_at t n driver_binding
-binding_beside ns t h n = elim (cases_Bool (is_one_of ns n)) [
-  | inl e ↦ found_beside ns t n driver_binding ∙ rw e (sym (unfound (interface_at t n driver_binding) (one_of_all (λ m. carries t driver_binding m ≡ false) n ns h.undriven e)))
-  | inr e ↦ found_beside ns t n driver_binding ∙ rw e refl
-]
-
-value_beside : (ns : List ℕ) (t : HandleTable) → MayLeave ns t → (n : ℕ) → value_at (without_handles ns t) n driver_binding ≡ value_at t n driver_binding
-value_beside ns t h n = ap (option_map (λ (i : Interface). i.value)) (binding_beside ns t h n)
-
-carrier_stays : (ns : List ℕ) (t : HandleTable) → MayLeave ns t → (n : ℕ) → carries t driver_binding n ≡ true → not (is_one_of ns n) ≡ true
-carrier_stays ns t h n k = elim (cases_Bool (is_one_of ns n)) [
-  | inl e ↦ absurd (let f : true ≡ false = sym k ∙ one_of_all (λ m. carries t driver_binding m ≡ false) n ns h.undriven e in cc)
-  | inr e ↦ rw e refl
-]
-
-holders_beside : (ns : List ℕ) (t : HandleTable) → MayLeave ns t → filter (carries (without_handles ns t) driver_binding) (numbers (without_handles ns t)) ≡ filter (carries t driver_binding) (numbers t)
-holders_beside ns t h =
-    let left = without_handles ns t in
-    filter_same (carries left driver_binding) (carries t driver_binding) (numbers left) (all_of (λ n. carries left driver_binding n ≡ carries t driver_binding n) (λ n. ap is_some (binding_beside ns t h n)) (numbers left))
-    ∙ ap (filter (carries t driver_binding)) (filter_map_filter (λ (x : LiveHandle). x.number) (λ n. not (is_one_of ns n)) t.handles)
-    ∙ filter_inside (λ n. not (is_one_of ns n)) (carries t driver_binding) (carrier_stays ns t h) (numbers t)
-
-named_beside : (ds : List Meaning) (ns : List ℕ) (t : HandleTable) → MayLeave ns t → (agents : List Agent) (named : List ℕ) → with_all_named ds (without_handles ns t) agents named ≡ with_all_named ds t agents named
-named_beside ds ns t h agents [] = refl
-named_beside ds ns t h agents (n ∷ named) = rw (value_beside ns t h n) (named_beside ds ns t h (with_named ds t agents n) named)
-
-others_beside : (ds : List Meaning) (ns : List ℕ) (t : HandleTable) → MayLeave ns t → (agents : List Agent) (ms : List ℕ) → others_among ds (without_handles ns t) agents ms ≡ others_among ds t agents ms
-others_beside ds ns t h agents [] = refl
-others_beside ds ns t h agents (m ∷ ms) = rw (value_beside ns t h m) (ap (λ (rest : List Agent). other ds t agents m ++ rest) (others_beside ds ns t h agents ms))
-
--- the same drivers are tried
-pub agents_beside : (ds : List Meaning) (ns : List ℕ) (t : HandleTable) → MayLeave ns t → (named : List ℕ) → agents_for ds (without_handles ns t) named ≡ agents_for ds t named
-agents_beside ds ns t h named =
-    let left = without_handles ns t in
-    let first : with_all_named ds left [] named ≡ with_all_named ds t [] named = named_beside ds ns t h [] named in
-    let more : others ds left (with_all_named ds t [] named) ≡ others ds t (with_all_named ds t [] named) = ap (others_among ds left (with_all_named ds t [] named)) (holders_beside ns t h) ∙ others_beside ds ns t h (with_all_named ds t [] named) (filter (carries t driver_binding) (numbers t)) in
-    ap (λ (agents : List Agent). agents ++ by_version [] (others ds left agents)) first ∙ ap (λ (agents : List Agent). with_all_named ds t [] named ++ by_version [] agents) more
 
 on_stays : (ns : List ℕ) (n : ℕ) → is_one_of ns n ≡ false → (i : Interface) → is_on n i ≡ true → not (is_one_of ns i.handle) ≡ true
 on_stays ns n h i k = elim (eqb_tells i.handle n) [

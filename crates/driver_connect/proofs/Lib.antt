@@ -1,4 +1,5 @@
 pub mod Filters
+pub mod Among
 pub mod Rounds
 pub mod VersionOrder
 pub mod Opened

@@ -318,25 +318,12 @@ module _ (n : ℕ) (guid : List ℕ) (value : ℕ) (t : HandleTable) (x : Interf
 
 -- ---- beside handles that go
 
-carried_put : (n : ℕ) (guid : List ℕ) (value stamp m : ℕ) (g : List ℕ) (is : List Interface) → is_some (find (is_at m g) (map (restamped n guid value stamp) is)) ≡ is_some (find (is_at m g) is)
-carried_put n guid value stamp m g [] = refl
-carried_put n guid value stamp m g (i ∷ is) = elim (cases_Bool (is_at n guid i)) [
-  | inl t ↦ elim (cases_Bool (is_at m g i)) [
-    | inl e ↦ rw t (rw e refl)
-    | inr e ↦ rw t (rw e (carried_put n guid value stamp m g is))
-  ]
-  | inr f ↦ elim (cases_Bool (is_at m g i)) [
-    | inl e ↦ rw f (rw e refl)
-    | inr e ↦ rw f (rw e (carried_put n guid value stamp m g is))
-  ]
-]
-
 -- handles that may stay may do so while an interface is connected with its stamp of before
 pub may_leave_begun : (ns : List ℕ) (n : ℕ) (guid : List ℕ) (value own : ℕ) (t : HandleTable) → MayLeave ns t → MayLeave ns (begun n guid value own t)
 may_leave_begun ns n guid value own t h = record {
+  ascending = h.ascending;
   given = h.given;
   count = h.count;
-  undriven = all_map (λ m. carries t driver_binding m ≡ false) (λ m. carries (begun n guid value own t) driver_binding m ≡ false) (λ m e. carried_put n guid value own m driver_binding t.interfaces ∙ e) ns h.undriven;
 }
 
 pub begun_beside : (ns : List ℕ) (n : ℕ) (guid : List ℕ) (value own : ℕ) (t : HandleTable) → without_handles ns (begun n guid value own t) ≡ begun n guid value own (without_handles ns t)

@@ -1,9 +1,9 @@
 -- A connect beside handles that go once it is done.
-use Rattle.std.specs.Prelude.{◌≡◌, ℕ, ◌+◌, ◌≤◌, false, List, [], length}
+use Rattle.std.specs.Prelude.{◌≡◌, ℕ, ◌+◌, ◌<◌, ◌≤◌, List, [], length}
 use Rattle.std.specs.List.{AllByRecursion}
-use Rattle.guid_handles.specs.HandleTables.{HandleTable, carries}
+use Rattle.guid_handles.specs.HandleTables.{HandleTable}
+use Rattle.guid_handles.specs.Sorting.{Ascending}
 use Rattle.open_agents.specs.declared.items.OpenRecord.{OpenRecord}
-use Rattle.driver_connect.specs.Drivers.{driver_binding}
 use Rattle.driver_connect.specs.Starting.{Progress}
 use Rattle.driver_connect.specs.Stopping.{without_handles}
 
@@ -25,8 +25,8 @@ reached d = record {
 abbrev pub first_draft : List ℕ → HandleTable → List OpenRecord → Draft
 first_draft ns t opens = record { handles = t; opens = opens; events = []; leaving = ns }
 
--- Handles may stay until a connect is done: they were given, each is live, and none is a driver's.
+-- Handles may stay until a connect is done: they ascend, were given, and each is live.
 pub record MayLeave (ns : List ℕ) (t : HandleTable) : Type 0 where
+  pub ascending : Ascending (λ a b. a < b) ns
   pub given : AllByRecursion (λ n. n ≤ t.last_number) ns
   pub count : length (without_handles ns t).handles + length ns ≡ length t.handles
-  pub undriven : AllByRecursion (λ n. carries t driver_binding n ≡ false) ns

@@ -1,17 +1,17 @@
 //! Connecting a handle, and the handles that are made.
-ghost use Rattle.std.specs.Prelude.{◌≡◌, ◌+◌, ◌<◌, ◌≤◌, ◌^◌, ◌++◌, true, false, not, nat_lt, [], length, map, IfOk, OnOk, OnErr};
+ghost use Rattle.std.specs.Prelude.{◌≡◌, ◌+◌, ◌<◌, ◌≤◌, ◌^◌, ◌++◌, true, false, [], length, map, IfOk, OnOk, OnErr};
 ghost use Rattle.driver_connect.specs.Connecting as spec;
 ghost use Rattle.driver_connect.specs.Connecting.{ConnectsBy};
 ghost use Rattle.driver_connect.specs.Beside.{MayLeave, reached};
 ghost use Rattle.driver_connect.specs.BesideSteps.{ConnectsBeside, ConnectsTo};
 ghost use Rattle.driver_connect.specs.Pending.{ConnectsOne, GrowsWith, first_last};
 ghost use Rattle.guid_handles.specs.HandleChanges.{max_handles};
-ghost use Rattle.guid_handles.specs.Sorting.{Ascending, place};
 ghost use Rattle.driver_connect.specs.GoingOn.{GoesOn};
 ghost use Rattle.driver_connect.specs.Room.{HasRoom, Grows};
 ghost use Rattle.driver_connect.specs.Starting.{site_of, starts_on, is_any_carried_out as any};
 
 use crate::driver::Driver;
+use crate::numbers::count_up_to;
 use crate::readiness::is_any_ready;
 use crate::starting::{Connecting, Unfinished, is_any_carried_out, run_passes};
 use guid_handles::Handles;
@@ -25,19 +25,6 @@ pub const MAX_NAMED: usize = 16;
 
 /// How many levels of handles are connected below the one that is named.
 const LEVELS_BELOW: u8 = 7;
-
-/// How many of some ascending numbers are not above one.
-fn count_up_to(numbers: &[u64], last: u64) -> usize
-    requires { Ascending (λ a b. a < b) numbers.now }
-    ensures place { result ≡ place (λ n. not (nat_lt last n)) numbers.now }
-    ensures bound { result ≤ length numbers.now }
-{
-    numbers.partition_point(
-        |n: &u64| -> bool
-            ensures { result ≡ not (nat_lt last n.now) }
-        { *n <= last },
-    )
-}
 
 /// The handles that were made after a number was given, ascending.
 fn made_after<A: Allocator + Copy>(

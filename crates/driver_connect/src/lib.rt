@@ -9,6 +9,7 @@ mod driver_order;
 mod driver_turns;
 mod laws;
 mod made;
+mod numbers;
 mod pair_set;
 mod pairs;
 mod progress;

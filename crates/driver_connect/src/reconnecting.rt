@@ -1,13 +1,10 @@
 //! Putting another value in place of an interface's, and connecting its handle.
-ghost use Rattle.std.specs.Prelude.{◌≡◌, ◌+◌, ◌<◌, ◌≤◌, ◌^◌, true, false, OnErr};
-ghost use Rattle.std.specs.List.{AllByRecursion, list_any};
+ghost use Rattle.std.specs.Prelude.{◌≡◌, ◌+◌, ◌<◌, ◌≤◌, ◌^◌, true, OnErr};
 ghost use Rattle.guid_handles.specs.HandleTables.{carries};
 ghost use Rattle.driver_connect.specs.Beside.{MayLeave};
 ghost use Rattle.driver_connect.specs.BesideSteps.{ReconnectsBeside};
-ghost use Rattle.driver_connect.specs.Drivers.{driver_binding as binding};
 ghost use Rattle.driver_connect.specs.Stopping.{made_by, without_handles};
 
-use crate::agents::driver_binding;
 use crate::connecting::connect_below;
 use crate::driver::Driver;
 use crate::starting::Unfinished;
@@ -69,7 +66,8 @@ fn replace_beside<D: Driver, A: Allocator + Copy>(
     }
 }
 
-/// The same, with the handles removed first, and a copy of all handles to be put back.
+/// The same, with the handles removed first, and a copy of all handles to be put back: for children that
+/// have no room beside the handles that go.
 fn replace_over_copy<D: Driver, A: Allocator + Copy>(
     alloc: A,
     leaving: &[u64],
@@ -113,15 +111,6 @@ fn replace_over_copy<D: Driver, A: Allocator + Copy>(
     }
 }
 
-/// Whether one of some handles is a driver's.
-fn has_driver_handle<A: Allocator + Copy>(handles: &Handles<A>, among: &[u64]) -> bool
-    ensures { result ≡ list_any (λ n. carries handles.now binding n) among.now }
-{
-    among
-        .iter()
-        .any(|n| handles.interface(*n, driver_binding()).is_some())
-}
-
 /// Removes the handles of a stop, gives an interface of a handle that stays another value and a new
 /// stamp, and connects its handle with all below it, with no driver named. It returns the events given,
 /// then those of the connect. On an `Err` memory ran out, and nothing changes.
@@ -150,11 +139,6 @@ pub fn replace_and_connect<D: Driver, A: Allocator + Copy>(
     // The contract of this look-up says that the handles are in order.
     let _numbers = handles.all();
     let leaving = plan.handles();
-    if has_driver_handle(handles, leaving) {
-        return replace_over_copy(
-            alloc, leaving, handles, opens, notify, drivers, handle, guid, value, given,
-        );
-    }
     match replace_beside(
         alloc, leaving, handles, opens, notify, drivers, handle, guid, value, given,
     ) {

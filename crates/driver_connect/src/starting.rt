@@ -8,11 +8,11 @@ ghost use Rattle.driver_connect.specs.GoingOn.{GoesOn};
 ghost use Rattle.driver_connect.specs.Room.{HasRoom, Grows};
 ghost use Rattle.driver_connect.specs.Starting as spec;
 ghost use Rattle.driver_connect.specs.Starting.{all_passes, pass, protocols_at, site_of};
-ghost use Rattle.driver_connect.specs.Stopping.{is_one_of};
 
 use crate::agents::{Agent, plan_at, supports_at};
-use crate::candidates::agents_for;
+use crate::candidates::{agents_for, leave_out};
 use crate::driver::Driver;
+use crate::numbers::is_among;
 use crate::progress::{can_start, make_children, open_for_driver, signal_children};
 use crate::protocols::protocols_on;
 use crate::view::{ProtocolView, StartPlan, View};
@@ -71,13 +71,6 @@ impl<'a, A: Allocator> Model for Connecting<'a, A> {
 pub(crate) struct Pass<A: Allocator> {
     starts: Vec<Start, A>,
     left: Vec<Agent, A>,
-}
-
-/// Whether a handle is among some.
-fn is_among(handles: &[u64], handle: u64) -> bool
-    ensures { result ≡ is_one_of handles.now handle }
-{
-    handles.iter().any(|n| handle == *n)
 }
 
 impl<'a, A: Allocator + Copy> Connecting<'a, A> {
@@ -173,7 +166,8 @@ impl<'a, A: Allocator + Copy> Connecting<'a, A> {
         protocols_on(alloc, &self.handles, &self.opens, handle)
     }
 
-    /// The drivers to be tried on a handle: those named, and then all others by version.
+    /// The drivers to be tried on a handle: those named, and then all others by version. None is on a handle
+    /// that goes.
     fn agents<D: Driver>(
         &self,
         alloc: A,
@@ -184,7 +178,9 @@ impl<'a, A: Allocator + Copy> Connecting<'a, A> {
             (λ v. v.items
             ≡ spec.agents_for (map D.meaning drivers.now) (reached self.now).handles named.now) }
     {
-        agents_for(alloc, drivers, &self.handles, named)
+        let mut agents = agents_for(alloc, drivers, &self.handles, named)?;
+        leave_out(&mut agents, self.leaving);
+        Ok(agents)
     }
 
     /// Carries out a plan that can be. On an `Err` memory ran out, or there was no room for its children

@@ -2,7 +2,7 @@ use Rattle.std.proofs.Common.{rules, ℕ, Bool, nat_lt, not}
 use Rattle.std.proofs.lemmas.List.Sorted.{IsPartitionPoint-from_clause}
 use Rattle.guid_handles.proofs.SortedLists.{partitioned, place_is}
 use Rattle.driver_connect.proofs.Pending.{numbers_fall}
-use Rattle.driver_connect.proofs.connecting.count_up_to.Goals as goal
+use Rattle.driver_connect.proofs.numbers.count_up_to.Goals as goal
 
 pub returns-clause-place : goal.returns-clause-place
 returns-clause-place c =
