@@ -50,7 +50,7 @@ taken_other : (rs : List Run) (i : ℕ) (r : Run) → i < length rs → r ≡ ge
 taken_other rs i r h at other = taken rs i r h at ∙ ap (λ ds. entries_of (take i rs) ++ ds) (no_entry r other) ∙ append-nil (entries_of (take i rs))
 
 -- there is a run at an index
-some_run : (rs : List Run) (i : ℕ) → i < length rs → (r : Run) × (slice_get rs i ≡ Some r)
+pub some_run : (rs : List Run) (i : ℕ) → i < length rs → (r : Run) × (slice_get rs i ≡ Some r)
 some_run [] i h = absurd (omega arith)
 some_run (r ∷ rs) zero h = (r, refl)
 some_run (r ∷ rs) (suc i) h = some_run rs i (omega arith)

@@ -1,11 +1,11 @@
 -- Bits that mark the free runs among some runs.
 use Rattle.std.proofs.Common.{◌≡◌, ◌≢◌, ℕ, zero, suc, ◌+◌, ◌-◌, ◌*◌, ◌/◌, ◌%◌, ◌^◌, ◌<◌, ◌≤◌, List, [], ◌∷◌, ◌++◌, take, drop, get_or, length, Option, Some, None, inl, inr, refl, sym, ap, subst, ◌∙◌, pow-suc, length-take, arith}
 use Rattle.std.specs.Prelude.{slice_get, bit_or, bit_and}
-use Rattle.std.specs.Int.{w64, bit_at, leading_zeros}
+use Rattle.std.specs.Int.{w64, bit_at, leading_zeros, trailing_zeros}
 use Rattle.std.proofs.lemmas.Bool.{cases_eq, cases_lt}
 use Rattle.std.proofs.lemmas.Option.{slice_get_within}
-use Rattle.std.proofs.lemmas.Nat.{pow_pos, shr-shr, and_le_r, leading_top}
-use Rattle.std.proofs.lemmas.Nat.Bits.{bit_at_or, bit_at_and, bit_at-lt, bit_at-zero, bit_at_above, bit_at_cat_low, bit_at_cat_high, bit_at_set_same, bit_at_set_other}
+use Rattle.std.proofs.lemmas.Nat.{pow_pos, shr-shr, shr_le, and_le_r, leading_top}
+use Rattle.std.proofs.lemmas.Nat.Bits.{bit_at_or, bit_at_and, bit_at-lt, bit_at-zero, bit_at_above, bit_at_cat_low, bit_at_cat_high, bit_at_set_same, bit_at_set_other, bit_at-trailing_zeros}
 use Rattle.page_ranges.specs.declared.ranges.Run.{Run}
 use Rattle.page_ranges.specs.MemoryTypes.{conventional}
 use Rattle.descriptor_table.specs.Summaries.{IsFreeRun}
@@ -119,6 +119,21 @@ module _ (marks below end : ℕ) (ones : (i : ℕ) → i < end → bit_at below 
     -- and above it is no mark
     pub none_behind : (j : ℕ) → 63 - leading_zeros w64 (bit_and marks below) < j → j < end → bit_at marks j ≡ 0
     none_behind j m l = unmarked j l (bit_at_above (bit_and marks below) (suc top.0) j top.3 (omega (arith, top.1, m)))
+
+-- ---- the first mark from an index on
+
+module _ (marks from : ℕ) where
+  -- a bit that is left is one of the marks
+  left_bit : (j : ℕ) → from ≤ j → bit_at marks j ≡ bit_at (marks / 2 ^ from) (j - from)
+  left_bit j low = let k : j ≡ from + (j - from) = omega (arith, low) in ap (bit_at marks) k ∙ sym (ap (λ x. x % 2) (shr-shr marks from (j - from)))
+
+  -- no bit left is no mark
+  pub no_mark_from : marks / 2 ^ from ≡ 0 → (j : ℕ) → from ≤ j → bit_at marks j ≡ 0
+  no_mark_from none j low = left_bit j low ∙ ap (λ x. bit_at x (j - from)) none ∙ bit_at-zero (j - from)
+
+  -- below the lowest bit left is no mark
+  pub none_below : marks < 2 ^ 64 → marks / 2 ^ from ≢ 0 → (j : ℕ) → from ≤ j → j < from + trailing_zeros w64 (marks / 2 ^ from) → bit_at marks j ≡ 0
+  none_below fits some j low below = left_bit j low ∙ (bit_at-trailing_zeros w64 (marks / 2 ^ from) (omega (arith, some)) (omega (arith, fits, shr_le marks from))).2 (j - from) (omega (arith, low, below))
 
 -- a run that is not marked is not free
 pub none_free : (marks : ℕ) (rs : List Run) (i : ℕ) (r : Run) → MarksFree marks rs → slice_get rs i ≡ Some r → r.mtype ≡ conventional → bit_at marks i ≡ 0 → ⊥

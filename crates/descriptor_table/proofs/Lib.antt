@@ -30,6 +30,7 @@ pub mod FreeBounds
 pub mod FreeMarks
 pub mod NoUse
 pub mod Downward
+pub mod Upward
 pub mod Grouped
 pub mod ChangedRuns
 pub mod RetypedRuns

@@ -8,7 +8,7 @@ use Rattle.page_ranges.specs.MemoryMap.{memory_map}
 use Rattle.page_ranges.specs.Cursors.{IsBlockAt}
 use Rattle.page_ranges.specs.Runs.{pages_of, AreMaximalRuns, AreRuns}
 use Rattle.descriptor_table.specs.declared.groups.Group.{Group}
-use Rattle.descriptor_table.specs.Leaves.{leaf_at, run_before, runs_in, runs_with_first, AreLeaves, IsPlace, RunPlace}
+use Rattle.descriptor_table.specs.Leaves.{leaf_at, run_before, runs_in, runs_with_first, AreLeaves, IsPlace}
 use Rattle.descriptor_table.specs.LeafSummaries.{MarksFree}
 use Rattle.descriptor_table.specs.Summaries.{AreGroups}
 use Rattle.descriptor_table.specs.Tables.{EndBy, IsBlockBelow}
@@ -60,10 +60,6 @@ run_below ls leaf index = run_before (runs_in ls) (length (runs_in (take leaf ls
 -- the run after the one at an index of a leaf
 abbrev pub run_above : List (List Run) → ℕ → ℕ → Option Run
 run_above ls leaf index = slice_get (runs_in ls) (length (runs_in (take leaf ls)) + index + 1)
-
--- maximal runs that make a proper memory, and a place among them
-abbrev pub IsProperPlace : List Run → RunPlace → Type 0
-IsProperPlace rs p = AreMaximalRuns rs × IsProperMemory (pages_of rs) × IsPlace rs p
 
 -- leaves whose runs are maximal and make a proper memory
 abbrev pub AreProperLeaves : List (List Run) → Type 0

@@ -1,5 +1,5 @@
 -- What a search for room looks for in the conventional entries of a memory map.
-use Rattle.std.specs.Prelude.{◌≡◌, ◌⊎◌, ℕ, ◌+◌, ◌<◌, ◌≤◌, ◌==◌, max, List, [], ◌∷◌, ◌++◌, filter, map, Option, Some, None, if◌then◌else◌}
+use Rattle.std.specs.Prelude.{◌≡◌, ◌⊎◌, ℕ, ◌+◌, ◌<◌, ◌≤◌, ◌==◌, max, List, [], ◌∷◌, ◌++◌, drop, filter, map, Option, Some, None, if◌then◌else◌}
 use Rattle.std.specs.List.{AllByRecursion}
 use Rattle.page_ranges.specs.declared.ranges.Descriptor.{Descriptor}
 use Rattle.page_ranges.specs.declared.ranges.Run.{Run}
@@ -72,11 +72,27 @@ YieldsLast old None new = old.entries ≡ []
 YieldsLast old (Some f) new =
     (f.memory ≡ old.memory) × (old.entries ≡ new.entries ++ f.entry ∷ [])
 
+-- the answer is the first entry that is left, and the others stay; or none is left
+abbrev pub YieldsFirst : FreeList → Option EntryOfMap → FreeList → Type 0
+YieldsFirst old None new = old.entries ≡ []
+YieldsFirst old (Some f) new = (f.memory ≡ old.memory) × (old.entries ≡ f.entry ∷ new.entries)
+
+-- the answer is the entries of a leaf, which come right before those that are left then; or none is
+-- left
+abbrev pub YieldsFirstLeaf : EntriesLeft → Option FreeList → EntriesLeft → Type 0
+YieldsFirstLeaf old None new = old.entries ≡ []
+YieldsFirstLeaf old (Some l) new = (l.memory ≡ old.memory) × (new.leaves < old.leaves)
+    × (old.entries ≡ l.entries ++ new.entries)
+
 -- ---- free runs in leaves
 
 -- the conventional entries that some runs are
 abbrev pub entries_of : List Run → List Descriptor
 entries_of rs = map entry_of (filter (λ r. r.mtype == conventional) rs)
+
+-- the conventional entries that the runs of the leaves from an index on are
+abbrev pub entries_from : List (List Run) → ℕ → List Descriptor
+entries_from ls leaf = entries_of (runs_in (drop leaf ls))
 
 -- no conventional run of the leaves between two indices is an entry of use
 abbrev pub AreOfNoUse : Wanted → List (List Run) → ℕ → ℕ → Type 0

@@ -9,12 +9,24 @@ ghost use Rattle.descriptor_table.specs.LeafWalks.{entry_up_to, map_from, map_of
 ghost use Rattle.descriptor_table.specs.Tables.{entry_of, EndBy};
 
 use crate::entry_starts::runs_before;
-use crate::free_entries::block_of;
 use crate::leaves::Leaf;
 use crate::walks::Walk;
 use page_ranges::{Descriptor, Run};
 use std::alloc::{Allocator, Global};
 use std::marker::Model;
+
+// A run as a block, its owner left out.
+#[inline(always)]
+fn block_of(run: &Run) -> Descriptor
+    ensures { result ≡ entry_of run.now }
+{
+    Descriptor {
+        mtype: run.mtype,
+        first: run.range.first,
+        pages: run.range.pages,
+        attributes: run.attributes,
+    }
+}
 
 /// The second run goes on in the first one's entry of the map.
 #[inline(always)]

@@ -1,124 +1,61 @@
-//! The conventional entries of a memory map, with what lies beside each.
-ghost use Rattle.std.specs.Prelude.{◌≡◌, ◌+◌, ◌≤◌, ◌==◌, ◌∷◌, List, Option, filter, IfSome, Some, slice_get, option_map};
-ghost use Rattle.page_ranges.specs.declared.ranges.Run.{Run};
-ghost use Rattle.page_ranges.specs.MemoryTypes.{conventional, page_count};
+//! The conventional entries of a memory map by ascending page.
+ghost use Rattle.std.specs.Prelude.{◌≡◌, ◌<◌, ◌≤◌, [], IfSome, IfNone, length};
 ghost use Rattle.page_ranges.specs.Memory.{IsProperMemory};
-ghost use Rattle.page_ranges.specs.MemoryMap.{memory_map};
-ghost use Rattle.page_ranges.specs.Cursors.{IsBlockAt};
 ghost use Rattle.page_ranges.specs.Runs.{pages_of, AreMaximalRuns};
-ghost use Rattle.descriptor_table.specs.Leaves.{runs_in, AreLeaves, IsPlace};
-ghost use Rattle.descriptor_table.specs.LeafWalks.{IsAboveRun, IsBelowRun, free_in};
-ghost use Rattle.descriptor_table.specs.Tables.{entry_of};
+ghost use Rattle.descriptor_table.specs.Leaves.{runs_in, AreLeaves};
+ghost use Rattle.descriptor_table.specs.LeafWalks.{free_in};
+ghost use Rattle.descriptor_table.specs.Wanting.{entries_from, YieldsFirst, YieldsFirstLeaf};
 
+use crate::free_marks::first_mark;
+use crate::free_runs::FreeRun;
 use crate::leaves::Leaf;
-use crate::walks::Walk;
-use page_ranges::{Descriptor, MemoryType, Run};
+use page_ranges::{MemoryType, Run};
 use std::alloc::{Allocator, Global};
 use std::marker::Model;
 
-/// A conventional entry of the memory map. The blocks beside it may be parts of their entries.
-#[derive(Clone, Copy)]
-pub struct FreeEntry {
-    pub entry: Descriptor,
-    /// A block with the page just below the entry, `None` where that is absent.
-    pub below: Option<Descriptor>,
-    /// A block with the page just behind the entry, `None` where that is absent.
-    pub above: Option<Descriptor>,
-}
-
-// A run as a block, its owner left out.
+/// The first leaf from an index on that has a mark; `None` where none has.
 #[inline(always)]
-pub(crate) fn block_of(run: &Run) -> Descriptor
-    ensures { result ≡ entry_of run.now }
+fn marked_leaf<A: Allocator + Copy>(leaves: &[Leaf<A>], from: usize) -> Option<usize>
+    ensures bound { IfSome result (λ j. (from ≤ j) × (j < length leaves.now)) }
+    ensures some { IfSome result (λ j. entries_from leaves.now from ≡ entries_from leaves.now j) }
+    ensures none { IfNone result (entries_from leaves.now from ≡ []) }
 {
-    Descriptor {
-        mtype: run.mtype,
-        first: run.range.first,
-        pages: run.range.pages,
-        attributes: run.attributes,
-    }
-}
-
-// A block with the page just below a run, by the run that lies below.
-#[inline(always)]
-pub(crate) fn block_below(below: Option<&Run>, run: &Run) -> Option<Descriptor>
-    requires { IfSome (option_map (λ r. r.now) below)
-        (λ r. r.range.first + r.range.pages ≤ page_count) }
-    ensures { IsBelowRun (option_map (λ r. r.now) below.entry) run.now result }
-{
-    let Some(below) = below else {
-        return None;
-    };
-    if below.range.first + below.range.pages == run.range.first {
-        Some(block_of(below))
-    } else {
-        None
-    }
-}
-
-// A block with the page just behind a run, by the run that lies above.
-#[inline(always)]
-pub(crate) fn block_above(run: &Run, above: Option<&Run>) -> Option<Descriptor>
-    requires { run.now.range.first + run.now.range.pages ≤ page_count }
-    ensures { IsAboveRun run.now (option_map (λ r. r.now) above.entry) result }
-{
-    let Some(above) = above else {
-        return None;
-    };
-    if run.range.first + run.range.pages == above.range.first {
-        Some(block_of(above))
-    } else {
-        None
-    }
-}
-
-// Passes runs up to the first conventional one.
-#[inline(always)]
-fn pass_to_free<A: Allocator + Copy>(walk: &mut Walk<'_, A>)
-    requires { AreMaximalRuns walk.old.rest }
-    ensures place { (rs : List Run) → IsPlace rs walk.old → IsPlace rs walk.new }
-    ensures free { (r : Run) → slice_get walk.new.rest 0 ≡ Some r → r.mtype ≡ conventional }
-    ensures passed { free_in walk.old.rest ≡ free_in walk.new.rest }
-{
-    while let Some(run) = walk.peek() {
-        if run.mtype == MemoryType::conventional() {
-            return;
+    for leaf in from..leaves.len() {
+        if leaves[leaf].marks() != 0 {
+            return Some(leaf);
         }
-        let _ = walk.next();
     }
+    None
 }
 
-/// The conventional entries of a memory map, by ascending page.
+/// The conventional entries of a memory map by ascending page, as the free runs of one leaf after the other.
 #[derive(Drop)]
 pub struct FreeEntries<'a, A: Allocator = Global> {
     leaves: &'a [Leaf<A>],
-    walk: Walk<'a, A>,
+    // The leaves from this one on are still to come.
+    leaf: usize,
 }
 
 impl<'a, A: Allocator> Model for FreeEntries<'a, A> {
-    ghost use Rattle.std.specs.Prelude.{◌==◌, filter};
-    ghost use Rattle.page_ranges.specs.MemoryTypes.{conventional};
-    ghost use Rattle.page_ranges.specs.Memory.{IsProperMemory};
-    ghost use Rattle.page_ranges.specs.MemoryMap.{memory_map};
-    ghost use Rattle.page_ranges.specs.Runs.{pages_of, AreMaximalRuns};
-    ghost use Rattle.descriptor_table.specs.FreeLists.{FreeList};
-    ghost use Rattle.descriptor_table.specs.LeafWalks.{IsProperPlace, free_in};
-    ghost use Rattle.descriptor_table.specs.Leaves.{runs_in, IsPlace};
+    ghost use Rattle.std.specs.Prelude.{◌-◌, length};
+    ghost use Rattle.page_ranges.specs.Runs.{pages_of};
+    ghost use Rattle.descriptor_table.specs.Leaves.{runs_in};
+    ghost use Rattle.descriptor_table.specs.LeafWalks.{AreProperLeaves};
+    ghost use Rattle.descriptor_table.specs.Wanting.{EntriesLeft, entries_from};
 
-    ghost Value = { FreeList };
+    ghost Value = { EntriesLeft };
 
     ghost view = { λ e.
         record {
           memory = pages_of (runs_in e.leaves.now);
-          entries = free_in e.walk.rest;
+          entries = entries_from e.leaves.now e.leaf;
+          leaves = length e.leaves.now - e.leaf;
         } };
 
-    ghost invariant = { λ e. IsProperPlace (runs_in e.leaves.now) e.walk };
+    ghost invariant = { λ e. AreProperLeaves e.leaves.now };
 }
 
 impl<'a, A: Allocator + Copy> FreeEntries<'a, A> {
-    ghost use Rattle.descriptor_table.specs.FreeLists.{YieldsFree};
-
     pub(crate) fn new(leaves: &'a [Leaf<A>]) -> FreeEntries<'a, A>
         requires leaves { AreLeaves leaves.now }
         requires maximal { AreMaximalRuns (runs_in leaves.now) }
@@ -126,26 +63,78 @@ impl<'a, A: Allocator + Copy> FreeEntries<'a, A> {
         ensures memory { result.memory ≡ pages_of (runs_in leaves.now) }
         ensures entries { result.entries ≡ free_in (runs_in leaves.now) }
     {
-        FreeEntries {
-            leaves,
-            walk: Walk::new(leaves),
-        }
+        FreeEntries { leaves, leaf: 0 }
     }
 
+    /// The entries of the next leaf that has some; `None` after the last one.
+    #[inline(always)]
+    pub fn next_leaf(&mut self) -> Option<LeafUp<'a, A>>
+        ensures stays { self.new.memory ≡ self.old.memory }
+        ensures next { YieldsFirstLeaf self.old result self.new }
+    {
+        let leaf = marked_leaf(self.leaves, self.leaf)?;
+        self.leaf = leaf + 1;
+        Some(LeafUp {
+            leaves: self.leaves,
+            leaf,
+            runs: self.leaves[leaf].runs(),
+            marks: self.leaves[leaf].marks(),
+            index: 0,
+        })
+    }
+}
+
+/// The conventional entries of a leaf by ascending page.
+#[derive(Drop)]
+pub struct LeafUp<'a, A: Allocator = Global> {
+    leaves: &'a [Leaf<A>],
+    leaf: usize,
+    // The runs of that leaf, with a bit for each free one. Those from an index on are still to come.
+    runs: &'a [Run],
+    marks: u64,
+    index: usize,
+}
+
+impl<'a, A: Allocator> Model for LeafUp<'a, A> {
+    ghost use Rattle.std.specs.Prelude.{drop};
+    ghost use Rattle.page_ranges.specs.Runs.{pages_of};
+    ghost use Rattle.descriptor_table.specs.FreeLists.{FreeList};
+    ghost use Rattle.descriptor_table.specs.Leaves.{runs_in};
+    ghost use Rattle.descriptor_table.specs.LeafWalks.{AreRunsOfLeaf};
+    ghost use Rattle.descriptor_table.specs.Wanting.{entries_of};
+
+    ghost Value = { FreeList };
+
+    ghost view = { λ l.
+        record {
+          memory = pages_of (runs_in l.leaves.now);
+          entries = entries_of (drop l.index l.runs.now);
+        } };
+
+    ghost invariant = { λ l. AreRunsOfLeaf l.leaves.now l.leaf l.runs.now l.marks l.index };
+}
+
+impl<'a, A: Allocator + Copy> LeafUp<'a, A> {
     /// The next entry; `None` after the last one.
     #[inline(always)]
-    pub fn next_entry(&mut self) -> Option<FreeEntry>
+    pub fn next_entry(&mut self) -> Option<FreeRun<'a, A>>
         ensures stays { self.new.memory ≡ self.old.memory }
-        ensures next { YieldsFree self.old result self.new }
+        ensures next { YieldsFirst self.old result self.new }
     {
-        pass_to_free(&mut self.walk);
-        let below = self.walk.before();
-        let run = self.walk.next()?;
-        let above = self.walk.peek();
-        Some(FreeEntry {
-            entry: block_of(run),
-            below: block_below(below, run),
-            above: block_above(run, above),
-        })
+        while let Some(index) = first_mark(self.marks, self.index, self.runs.len()) {
+            self.index = index + 1;
+            let run = &self.runs[index];
+            if run.mtype == MemoryType::conventional() {
+                return Some(FreeRun {
+                    leaves: self.leaves,
+                    leaf: self.leaf,
+                    runs: self.runs,
+                    marks: self.marks,
+                    index,
+                    run,
+                });
+            }
+        }
+        None
     }
 }

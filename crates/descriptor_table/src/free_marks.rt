@@ -55,3 +55,19 @@ pub(crate) fn last_mark(marks: u64, end: usize) -> Option<usize>
     }
     Some(63 - left.leading_zeros() as usize)
 }
+
+/// The first mark of an index from one on and below another.
+#[inline(always)]
+pub(crate) fn first_mark(marks: u64, from: usize, end: usize) -> Option<usize>
+    requires { from < 64 }
+    ensures some { IfSome result (λ i. (from ≤ i) × (i < end)) }
+    ensures below { IfSome result (λ i. (j : ℕ) → from ≤ j → j < i → bit_at marks j ≡ 0) }
+    ensures none { IfNone result ((j : ℕ) → from ≤ j → j < end → bit_at marks j ≡ 0) }
+{
+    let left = marks >> from;
+    if left == 0 {
+        return None;
+    }
+    let index = from + left.trailing_zeros() as usize;
+    if index < end { Some(index) } else { None }
+}

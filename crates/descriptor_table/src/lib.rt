@@ -29,7 +29,7 @@ mod whole_runs;
 pub use cursors::RunCursor;
 pub use entries::MapEntries;
 pub use entries_down::{EntriesDown, LeafDown};
-pub use free_entries::{FreeEntries, FreeEntry};
+pub use free_entries::{FreeEntries, LeafUp};
 pub use free_runs::FreeRun;
 pub use leaves::Leaf;
 pub use table::RunTable;

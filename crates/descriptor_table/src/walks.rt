@@ -1,5 +1,5 @@
 //! A walk along the runs of leaves.
-ghost use Rattle.std.specs.Prelude.{◌≡◌, None, Some, IfSome, slice_get, option_map};
+ghost use Rattle.std.specs.Prelude.{◌≡◌, None, Some, IfSome, option_map};
 ghost use Rattle.descriptor_table.specs.Leaves.{runs_in, AreLeaves, PassesRun};
 
 use crate::leaves::Leaf;
@@ -42,25 +42,6 @@ impl<'a, A: Allocator + Copy> Walk<'a, A> {
             before: None,
             runs: &[],
             leaves,
-        }
-    }
-
-    /// The run that was passed last.
-    #[inline(always)]
-    pub(crate) fn before(&self) -> Option<&'a Run>
-        ensures { option_map (λ r. r.now) result ≡ self.now.before }
-    {
-        self.before
-    }
-
-    /// The next run, which stays the next one.
-    #[inline(always)]
-    pub(crate) fn peek(&self) -> Option<&'a Run>
-        ensures { option_map (λ r. r.now) result ≡ slice_get self.now.rest 0 }
-    {
-        match self.runs.first() {
-            Some(run) => Some(run),
-            None => self.leaves.first()?.runs().first(),
         }
     }
 

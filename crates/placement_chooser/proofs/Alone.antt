@@ -1,5 +1,5 @@
 -- The offer of an ordinary entry behind which no free page lies, where the granule is 1.
-use Rattle.std.proofs.Common.{◌≡◌, ℕ, ◌+◌, ◌-◌, ◌<◌, ◌≤◌, min, false, List, length, Contains, Option, Some, None, inl, inr, refl, subst, arith}
+use Rattle.std.proofs.Common.{◌≡◌, ◌≢◌, ℕ, ◌+◌, ◌-◌, ◌<◌, ◌≤◌, min, false, List, length, Contains, Option, Some, None, inl, inr, refl, ap, subst, ◌∙◌, arith}
 use Rattle.page_ranges.specs.declared.ranges.Descriptor.{Descriptor}
 use Rattle.page_ranges.specs.MemoryTypes.{conventional, is_specific_purpose}
 use Rattle.page_ranges.specs.Memory.{Page, page_at, page_below, IsConventional, IsProperMemory}
@@ -16,12 +16,31 @@ use Rattle.placement_certificate.proofs.BlockStarts.{on_page}
 use Rattle.placement_certificate.proofs.LastEntries.{first_on, last_on, low_price, high_price, whole_price, low_least, none_fit, two_least, whole_least}
 use Rattle.placement_certificate.proofs.Places.{price_most}
 use Rattle.placement_certificate.proofs.Tries.{better_cases}
-use Rattle.placement_chooser.specs.Starts.{IsOfferIn}
+use Rattle.placement_chooser.specs.declared.offers.Offer.{Offer}
+use Rattle.placement_chooser.specs.Starts.{IsOfferIn, IsOfferOf}
 use Rattle.placement_chooser.proofs.Entries.{below_page}
 
 -- the price of the best start in an entry, at most
 pub least_most : (m : List Page) (r : Request) (e : Descriptor) (c t : ℕ) → IsProperMemory m → IsProperRequest r → IsTrueLeast m r e (Some (c, t)) → c ≤ length (memory_map m) + 2
 least_most m r e c t proper good least = omega (arith, price_most m r t proper good least.0.permitted, least.1)
+
+-- no start in an entry that is too short, where no free page lies behind it
+pub too_short : (m : List Page) (r : Request) (e : Descriptor) → ¬ IsConventional (page_at m (e.first + e.pages)) → e.pages < r.pages → IsTrueLeast m r e None
+too_short m r e behind short q in_entry permitted = behind (permitted.conventional (e.first + e.pages) (omega (arith, in_entry.high)) (omega (arith, in_entry.low, short)))
+
+-- ---- an offer as a start with its price
+
+pub none_priced : (n : ℕ) (least : Option (ℕ × ℕ)) (b : Offer) → IsOfferOf n least b → b.saving ≡ 0 → None ≡ least
+none_priced n None b offered none = refl
+none_priced n (Some (c, t)) b offered none = absurd (omega (arith, offered.0, offered.1, none))
+
+pub some_priced : (n : ℕ) (least : Option (ℕ × ℕ)) (b : Offer) → IsOfferOf n least b → b.saving ≢ 0 → Some (n + 3 - b.saving, b.start) ≡ least
+some_priced n None b offered some = absurd (some offered)
+some_priced n (Some (c, t)) b offered some = let price : n + 3 - b.saving ≡ c = omega (arith, offered.0) in ap (λ k. Some (k, b.start)) price ∙ ap (λ k. Some (c, k)) offered.2
+
+pub saves_at_most : (n : ℕ) (least : Option (ℕ × ℕ)) (b : Offer) → IsOfferOf n least b → b.saving ≤ n + 3
+saves_at_most n None b offered = omega (arith, offered)
+saves_at_most n (Some (c, t)) b offered = omega (arith, offered.0)
 
 module _ (m : List Page) (r : Request) (e : Descriptor) (one : r.granule ≡ 1) (proper : IsProperMemory m) (good : IsProperRequest r) (entry : Contains (memory_map m) e) (free : e.mtype ≡ conventional) (ordinary : is_specific_purpose e.attributes ≡ false) (behind : ¬ IsConventional (page_at m (e.first + e.pages))) where
   abbrev end : ℕ

@@ -21,6 +21,7 @@ use Rattle.placement_certificate.proofs.Places.{start_entry}
 use Rattle.placement_certificate.proofs.Tries.{better_cases}
 use Rattle.placement_chooser.specs.declared.offers.Offer.{Offer}
 use Rattle.placement_chooser.specs.Starts.{IsCertifiedStart, IsGain, IsOfferOf, IsWantedFor, OffersBest}
+use Rattle.placement_chooser.proofs.Entries.{kept_entry}
 use Rattle.placement_chooser.proofs.Gains.{costs_too_much}
 
 -- ---- lists of entries
@@ -172,19 +173,6 @@ module _ (m : List Page) (r : Request) (proper : IsProperMemory m) (good : IsPro
   -- a conventional entry of the map, with a start in it
   entry_of_start : (q : ℕ) → IsPermittedStart m r q → (e : Descriptor) × Contains (conventional_entries m) e × IsIn e q
   entry_of_start q h = let s = start_entry m r q proper good h in (s.0, conventional_kept (memory_map m) s.0 s.3 s.1, s.2)
-
-  kept_entry : (es : List Descriptor) (e : Descriptor) → Contains (filter (λ d. eqb d.mtype conventional) es) e → Contains es e × (e.mtype ≡ conventional)
-  kept_entry [] e c = absurd (member_none e c)
-  kept_entry (d ∷ es) e c = elim (cases_Bool (eqb d.mtype conventional)) [
-    | inl t ↦ elim (member_cases d (filter (λ x. eqb x.mtype conventional) es) e (rw t at c)) [
-      | inl same ↦ (subst (λ x. Contains (d ∷ es) x) same (member_first d es), ap (λ x. x.mtype) (sym same) ∙ eqb_is d t)
-      | inr later ↦ let k = kept_entry es e later in (member_later d es e k.0, k.1)
-    ]
-    | inr f ↦ let k = kept_entry es e (rw f at c) in (member_later d es e k.0, k.1)
-  ]
-    where
-      eqb_is : (x : Descriptor) → eqb x.mtype conventional ≡ true → x.mtype ≡ conventional
-      eqb_is x t = eqb-true x.mtype conventional t
 
   pub none_done : (b : Offer) (w : Wanted) (left : List Descriptor) → left ≡ conventional_entries m → IsWantedFor r w → b.saving ≡ 0 → w.gain ≡ 0 → IsBestOffer m r b w left
   none_done b w left all wanted none gain = record {

@@ -3,6 +3,7 @@ ghost use Rattle.std.specs.Prelude.{◌≡◌, ℕ, None, IfSome, IfOk};
 ghost use Rattle.placement_certificate.specs.Placement.{IsProperRequest, IsPermittedStart};
 ghost use Rattle.placement_certificate.specs.Certificates.{IsTrueCertificate};
 
+use crate::bounds::least_in;
 use descriptor_table::RunTable;
 use placement_certificate::{Bound, Certificate, EntrySearch, Request, better_of};
 use std::alloc::{AllocError, Allocator};
@@ -26,16 +27,18 @@ pub fn choose<A: Allocator + Copy, B: Allocator + Copy>(
     let mut best = None;
     let mut search = EntrySearch::new(table.cursor(), table.cursor());
     let mut left = table.free_entries();
-    while let Some(free) = left.next_entry() {
-        let entry = free.entry;
-        let count = entries as u64;
-        let least = search.least_beside(request, count, &entry, free.below, free.above);
-        bounds.push_reserved(Bound {
-            first: entry.first,
-            pages: entry.pages,
-            least,
-        });
-        best = better_of(best, least);
+    while let Some(mut leaf) = left.next_leaf() {
+        while let Some(free) = leaf.next_entry() {
+            let count = entries as u64;
+            let least = least_in(&mut search, request, count, &free);
+            let range = free.run().range;
+            bounds.push_reserved(Bound {
+                first: range.first,
+                pages: range.pages,
+                least,
+            });
+            best = better_of(best, least);
+        }
     }
     match best {
         Some((_, answer)) => Ok(Some(Certificate { bounds, answer })),

@@ -6,13 +6,14 @@ ghost use Rattle.page_ranges.specs.Memory.{IsProperMemory};
 ghost use Rattle.page_ranges.specs.MemoryMap.{memory_map};
 ghost use Rattle.descriptor_table.specs.Tables.{entry_of};
 ghost use Rattle.descriptor_table.specs.Wanting.{IsFreeBehind};
+ghost use Rattle.placement_certificate.specs.Certificates.{IsTrueLeast};
 ghost use Rattle.placement_certificate.specs.Placement.{IsProperRequest};
 ghost use Rattle.placement_certificate.specs.Sides.{IsSavedAt};
 ghost use Rattle.placement_chooser.specs.Starts.{IsOfferIn, IsWantedFor, OffersBest};
 
 use descriptor_table::{FreeRun, RunCursor, Wanted};
 use page_ranges::{Descriptor, MemoryType, Run, is_specific_purpose};
-use placement_certificate::{EntrySearch, Request};
+use placement_certificate::{EntrySearch, PricedStart, Request};
 use std::alloc::Allocator;
 
 /// A start, and what a placement there saves: 1 where the map then has two entries more, which is the most, 2
@@ -56,7 +57,30 @@ fn block_of(run: &Run) -> Descriptor
     }
 }
 
-// The best start in an entry, whatever lies beside it.
+/// The best start in an entry, with its price, whatever lies beside it.
+#[inline(never)]
+pub(crate) fn least_beside<B: Allocator + Copy>(
+    search: &mut EntrySearch<RunCursor<'_, B>>,
+    request: &Request,
+    entries: u64,
+    free: &FreeRun<'_, B>,
+) -> Option<PricedStart>
+    requires memory { search.old ≡ free.now.memory }
+    requires proper { IsProperMemory free.now.memory }
+    requires good { IsProperRequest request.now }
+    requires entries { entries ≡ length (memory_map free.now.memory) }
+    requires entry { Contains (memory_map free.now.memory) free.now.entry }
+    requires free { free.now.entry.mtype ≡ conventional }
+    ensures stays { search.new ≡ search.old }
+    ensures least { IsTrueLeast free.now.memory request.now free.now.entry result }
+{
+    let below = free.below().map(block_of);
+    let above = free.above().map(block_of);
+    let entry = block_of(free.run());
+    search.least_beside(request, entries, &entry, below, above)
+}
+
+// The same as an offer.
 #[inline(never)]
 fn offer_beside<B: Allocator + Copy>(
     search: &mut EntrySearch<RunCursor<'_, B>>,
@@ -73,10 +97,7 @@ fn offer_beside<B: Allocator + Copy>(
     ensures stays { search.new ≡ search.old }
     ensures offer { IsOfferIn free.now.memory request.now free.now.entry result }
 {
-    let below = free.below().map(block_of);
-    let above = free.above().map(block_of);
-    let entry = block_of(free.run());
-    match search.least_beside(request, entries, &entry, below, above) {
+    match least_beside(search, request, entries, free) {
         Some((price, start)) => Offer {
             saving: entries + 3 - price,
             start,
@@ -93,9 +114,9 @@ fn fits(first: u64, pages: u64, end_by: u64) -> bool
     first <= end_by && pages <= end_by - first
 }
 
-// The best start in an ordinary entry behind which no free page lies, where the granule is 1.
+/// The best start in an ordinary entry behind which no free page lies, where the granule is 1.
 #[inline(always)]
-fn offer_alone<B: Allocator + Copy>(request: &Request, free: &FreeRun<'_, B>) -> Offer
+pub(crate) fn offer_alone<B: Allocator + Copy>(request: &Request, free: &FreeRun<'_, B>) -> Offer
     requires one { request.now.granule ≡ 1 }
     requires proper { IsProperMemory free.now.memory }
     requires good { IsProperRequest request.now }

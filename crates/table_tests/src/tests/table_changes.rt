@@ -5,7 +5,7 @@ ghost use Rattle.page_ranges.specs.MemoryTypes.{conventional};
 ghost use Rattle.page_ranges.specs.Memory.{page_at, IsPresent, AllInRange, IsProperMemory};
 ghost use Rattle.page_ranges.specs.Runs.{pages_of, AreRuns};
 
-use descriptor_table::RunTable;
+use descriptor_table::{FreeRun, LeafUp, RunTable};
 use page_ranges::{Descriptor, MemoryType, Owner, PageCursor, PageRange, Run};
 use std::alloc::Allocator;
 use std::process::Abort;
@@ -232,35 +232,66 @@ fn assert_cursor(rt: &impl Abort, table: &RunTable, runs: &[Run]) {
     }
 }
 
-// Whether a block is one of a run's kind that holds a page; both may be none.
-fn is_block_of(block: Option<Descriptor>, run: Option<Run>, page: u64) -> bool {
+// Whether a run that the table has is one of a run's kind that holds a page; both may be none.
+fn is_block_of(block: Option<&Run>, run: Option<Run>, page: u64) -> bool {
     match (block, run) {
         (Some(block), Some(run)) => {
-            let range = PageRange {
-                first: block.first,
-                pages: block.pages,
-            };
-            block.mtype == run.mtype && block.attributes == run.attributes && is_in(range, page)
+            block.mtype == run.mtype
+                && block.attributes == run.attributes
+                && is_in(block.range, page)
         }
         (None, None) => true,
         _ => false,
     }
 }
 
-// Asserts that the free entries are those of the plain list, and what the table says of the pages beside each.
+// Whether there is a run, a free one.
+fn is_free(run: Option<Run>) -> bool {
+    match run {
+        Some(run) => run.mtype.number() == 7,
+        None => false,
+    }
+}
+
+// The next free entry of a leaf, if there is a leaf.
+fn next_free<'a, A: Allocator + Copy>(leaf: &mut Option<LeafUp<'a, A>>) -> Option<FreeRun<'a, A>> {
+    match leaf {
+        Some(leaf) => leaf.next_entry(),
+        None => None,
+    }
+}
+
+// Asserts that a free entry is one of the plain list, and what the table says of the pages beside it.
+fn assert_beside<A: Allocator + Copy>(
+    rt: &impl Abort,
+    free: &FreeRun<'_, A>,
+    entry: &Run,
+    entries: &[Run],
+) {
+    let below = entry.range.first.wrapping_sub(1);
+    let above = entry.range.first.saturating_add(entry.range.pages);
+    assert!(rt; entry_of(free.run()) == entry_of(entry));
+    assert!(rt; is_block_of(free.below(), holding(entries, below), below));
+    assert!(rt; is_block_of(free.above(), holding(entries, above), above));
+    assert!(rt; free.goes_on() == is_free(holding(entries, above)));
+}
+
+// Asserts that the free entries are those of the plain list, one leaf after the other, each of which has some.
 fn assert_free<A: Allocator + Copy>(rt: &impl Abort, table: &RunTable<A>, entries: &[Run]) {
-    let mut found = table.free_entries();
+    let mut left = table.free_entries();
+    let mut leaf = left.next_leaf();
     for entry in entries {
         if entry.mtype.number() == 7 {
-            let free = found.next_entry().expect(rt, "a free entry");
-            let below = entry.range.first.wrapping_sub(1);
-            let above = entry.range.first.saturating_add(entry.range.pages);
-            assert!(rt; free.entry == entry_of(entry));
-            assert!(rt; is_block_of(free.below, holding(entries, below), below));
-            assert!(rt; is_block_of(free.above, holding(entries, above), above));
+            let mut free = next_free(&mut leaf);
+            if free.is_none() {
+                leaf = left.next_leaf();
+                free = next_free(&mut leaf);
+            }
+            assert_beside(rt, &free.expect(rt, "a free entry"), entry, entries);
         }
     }
-    assert!(rt; found.next_entry().is_none());
+    assert!(rt; next_free(&mut leaf).is_none());
+    assert!(rt; left.next_leaf().is_none());
 }
 
 // Asserts that the runs and the map are those of the plain list.

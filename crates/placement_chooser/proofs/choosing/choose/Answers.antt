@@ -1,17 +1,18 @@
 use Rattle.std.proofs.Common.{◌≡◌, ◌∷◌, ◌+◌, [], ◌++◌, length, refl, sym, ap, subst, ◌∙◌, append_assoc, rules, arith}
-use Rattle.page_ranges.specs.Memory.{page_at, page_below}
+use Rattle.std.specs.Prelude.{Contains}
+use Rattle.page_ranges.specs.declared.ranges.Descriptor.{Descriptor}
+use Rattle.page_ranges.specs.MemoryMap.{memory_map}
 use Rattle.placement_certificate.specs.declared.certificates.Bound.{Bound}
-use Rattle.placement_certificate.specs.Certificates.{IsTrueBound, conventional_entries}
-use Rattle.placement_certificate.specs.Search.{IsBestOf, IsOnPage}
+use Rattle.placement_certificate.specs.Certificates.{IsTrueBound, IsTrueLeast, conventional_entries}
+use Rattle.placement_certificate.specs.Search.{IsBestOf}
 use Rattle.placement_certificate.proofs.BestBounds.{no_bound}
-use Rattle.placement_certificate.proofs.BlockStarts.{on_page}
 use Rattle.placement_certificate.proofs.Decided.{best_is}
 use Rattle.placement_certificate.proofs.Tries.{bound_more}
-use Rattle.placement_chooser.proofs.Entries.{below_page, zip_more, all_bounded, few_conventional}
+use Rattle.placement_chooser.proofs.Entries.{all_bounded, few_conventional, first_left, zip_more}
 use Rattle.placement_chooser.proofs.choosing.choose.Goals as goal
 
-pub loop-free-init : goal.loop-free-init
-loop-free-init g c = record {
+pub loop-leaf-init : goal.loop-leaf-init
+loop-leaf-init g c = record {
   memory = c.free_entries-left.ensures.memory;
   bounds = ([], c.free_entries-left.ensures.entries, rw c.in_ok-bounds.ensures.items tt);
   best = rw c.in_ok-bounds.ensures.items tt;
@@ -19,56 +20,94 @@ loop-free-init g c = record {
   room = omega (arith, ap length c.free_entries-left.ensures.entries, few_conventional c.args.table.now.pages, c.descriptors-entries.ensures.count, c.in_ok-bounds.ensures.len, c.in_ok-bounds.ensures.capacity);
 }
 
-pub least_beside-least-requires-clause-below : goal.least_beside-least-requires-clause-below
-least_beside-least-requires-clause-below g c =
-    let free = c.in-Some.free in
-    subst (λ m. IsOnPage free.below (page_below m free.entry.first)) (c.loop-free.invariant.memory ∙ sym c.loop-free.invariant.stays) (below_page c.loop-free.left.memory free.entry.first free.below c.in-Some.ensures.next.1.below)
+pub loop-free-init : goal.loop-free-init
+loop-free-init g c =
+    let i = c.loop-leaf.invariant in
+    let next = c.in-Some.ensures.next in
+    record {
+      memory = next.0 ∙ i.memory;
+      bounds = (i.bounds.0, ap (λ es. i.bounds.0 ++ es) (sym next.2) ∙ i.bounds.1, i.bounds.2);
+      best = i.best;
+      stays = i.stays;
+      room = omega (arith, i.room, ap length next.2);
+    }
 
-pub least_beside-least-requires-clause-above : goal.least_beside-least-requires-clause-above
-least_beside-least-requires-clause-above g c =
-    let free = c.in-Some.free in
-    subst (λ m. IsOnPage free.above (page_at m (free.entry.first + free.entry.pages))) (c.loop-free.invariant.memory ∙ sym c.loop-free.invariant.stays) (on_page c.loop-free.left.memory (free.entry.first + free.entry.pages) free.above c.in-Some.ensures.next.1.above)
+pub loop-leaf-preserved : goal.loop-leaf-preserved
+loop-leaf-preserved g c =
+    let i = c.loop-free.invariant in
+    let rest = c.next_leaf.new.self.entries in
+    let none = c.in_default-next_entry.ensures.next in
+    record {
+      memory = c.in-Some.ensures.stays ∙ c.loop-leaf.invariant.memory;
+      bounds = (i.bounds.0, sym (ap (λ es. i.bounds.0 ++ (es ++ rest)) none) ∙ i.bounds.1, i.bounds.2);
+      best = i.best;
+      stays = i.stays;
+      room = omega (arith, i.room, ap (λ es. length (es ++ rest)) none);
+    }
+
+pub least_in-least-requires-clause-entry : goal.least_in-least-requires-clause-entry
+least_in-least-requires-clause-entry g c =
+    let i = c.loop-free.invariant in
+    let e = c.in-Some-next_entry.free.entry in
+    let rest = c.next_leaf.new.self.entries in
+    let next = c.in-Some-next_entry.ensures.next in
+    subst (λ n. Contains (memory_map n) e) (sym (next.0 ∙ i.memory)) (first_left c.args.table.now.pages i.bounds.0 (c.loop-free.leaf.entries ++ rest) (c.next_entry.new.self.entries ++ rest) e i.bounds.1 (ap (λ es. es ++ rest) next.1)).0
+
+pub least_in-least-requires-clause-free : goal.least_in-least-requires-clause-free
+least_in-least-requires-clause-free g c =
+    let i = c.loop-free.invariant in
+    let e = c.in-Some-next_entry.free.entry in
+    let rest = c.next_leaf.new.self.entries in
+    let next = c.in-Some-next_entry.ensures.next in
+    (first_left c.args.table.now.pages i.bounds.0 (c.loop-free.leaf.entries ++ rest) (c.next_entry.new.self.entries ++ rest) e i.bounds.1 (ap (λ es. es ++ rest) next.1)).1
 
 pub loop-free-preserved : goal.loop-free-preserved
 loop-free-preserved g c =
+    let i = c.loop-free.invariant in
     let m = c.args.table.now.pages in
     let r = c.args.request.now in
-    let e = c.in-Some.free.entry in
-    let es = c.next_entry.new.self.entries in
+    let e = c.in-Some-next_entry.free.entry in
+    let next = c.in-Some-next_entry.ensures.next in
+    let es = c.next_entry.new.self.entries ++ c.next_leaf.new.self.entries in
     let bs = c.loop-free.bounds.items in
-    let front = c.loop-free.invariant.bounds in
-    let least = c.least_beside-least.result in
-    let b : Bound = record { first = e.first; pages = e.pages; least = least } in
-    let steps : c.loop-free.left.entries ≡ e ∷ es = c.in-Some.ensures.next.0 in
+    let front = i.bounds in
+    let least = c.least_in-least.result in
+    let range = c.run.result.now.range in
+    let b : Bound = record { first = range.first; pages = range.pages; least = least } in
+    let steps : c.loop-free.leaf.entries ++ c.next_leaf.new.self.entries ≡ e ∷ es = ap (λ ds. ds ++ c.next_leaf.new.self.entries) next.1 in
     let same : front.0 ++ e ∷ es ≡ conventional_entries m = ap (λ ds. front.0 ++ ds) (sym steps) ∙ front.1 in
     rw (c.push_reserved.ensures.items, c.better_of-best.ensures) (record {
-      memory = c.in-Some.ensures.stays ∙ c.loop-free.invariant.memory;
+      memory = c.in-Some-next_entry.ensures.stays ∙ i.memory;
       bounds = (
         front.0 ++ e ∷ [],
         append_assoc front.0 (e ∷ []) es ∙ same,
-        zip_more (IsTrueBound m r) front.0 bs e b front.2 (record { first = refl; pages = refl; least = rw c.loop-free.invariant.stays at c.least_beside-least.ensures.least }),
+        zip_more (IsTrueBound m r) front.0 bs e b front.2 (record {
+          first = ap (λ (d : Descriptor). d.first) c.run.ensures;
+          pages = ap (λ (d : Descriptor). d.pages) c.run.ensures;
+          least = subst (λ n. IsTrueLeast n r e least) (next.0 ∙ i.memory) c.least_in-least.ensures.least;
+        }),
       );
-      best = bound_more c.loop-free.best least bs b refl c.loop-free.invariant.best;
-      stays = c.least_beside-least.ensures.stays ∙ c.loop-free.invariant.stays;
-      room = omega (arith, c.loop-free.invariant.room, ap length steps, c.push_reserved.ensures.len, c.push_reserved.ensures.capacity);
+      best = bound_more c.loop-free.best least bs b refl i.best;
+      stays = c.least_in-least.ensures.stays ∙ i.stays;
+      room = omega (arith, i.room, ap length steps, c.push_reserved.ensures.len, c.push_reserved.ensures.capacity);
     })
 
 pub returns-in-Some-best-clause-certificate : goal.returns-in-Some-best-clause-certificate
 returns-in-Some-best-clause-certificate g c =
     let m = c.args.table.now.pages in
     let r = c.args.request.now in
-    let bs = c.loop-free.bounds.items in
-    let front = c.loop-free.invariant.bounds in
-    let none : c.loop-free.left.entries ≡ [] = search rules in
-    let bounds = all_bounded (IsTrueBound m r) front.0 c.loop-free.left.entries (conventional_entries m) bs none front.1 front.2 in
-    record { bounds = bounds; answer = best_is m r bs c.descriptors-entries.ensures.proper c.requires bounds c.in-Some-best.field-0-0 c.in-Some-best.answer (subst (λ x. IsBestOf x bs) c.in-Some-best.is c.loop-free.invariant.best) }
+    let bs = c.loop-leaf.bounds.items in
+    let front = c.loop-leaf.invariant.bounds in
+    let none : c.loop-leaf.left.entries ≡ [] = search rules in
+    let bounds = all_bounded (IsTrueBound m r) front.0 c.loop-leaf.left.entries (conventional_entries m) bs none front.1 front.2 in
+    record { bounds = bounds; answer = best_is m r bs c.descriptors-entries.ensures.proper c.requires bounds c.in-Some-best.field-0-0 c.in-Some-best.answer (subst (λ x. IsBestOf x bs) c.in-Some-best.is c.loop-leaf.invariant.best) }
 
 pub returns-in-None-clause-none : goal.returns-in-None-clause-none
 returns-in-None-clause-none g c =
     let m = c.args.table.now.pages in
     let r = c.args.request.now in
-    let bs = c.loop-free.bounds.items in
-    let front = c.loop-free.invariant.bounds in
-    let none : c.loop-free.left.entries ≡ [] = search rules in
-    let bounds = all_bounded (IsTrueBound m r) front.0 c.loop-free.left.entries (conventional_entries m) bs none front.1 front.2 in
-    λ h. no_bound m r bs c.descriptors-entries.ensures.proper c.requires bounds (subst (λ x. IsBestOf x bs) c.in-None.is c.loop-free.invariant.best)
+    let bs = c.loop-leaf.bounds.items in
+    let front = c.loop-leaf.invariant.bounds in
+    let none : c.loop-leaf.left.entries ≡ [] = search rules in
+    let bounds = all_bounded (IsTrueBound m r) front.0 c.loop-leaf.left.entries (conventional_entries m) bs none front.1 front.2 in
+    λ h. no_bound m r bs c.descriptors-entries.ensures.proper c.requires bounds (subst (λ x. IsBestOf x bs) c.in-None.is c.loop-leaf.invariant.best)

@@ -1,5 +1,4 @@
-use Rattle.std.proofs.Common.{◌∙◌, Some, refl, subst, arith}
-use Rattle.placement_certificate.specs.Certificates.{IsTrueLeast}
+use Rattle.std.proofs.Common.{Some, refl, arith}
 use Rattle.placement_certificate.proofs.BlockStarts.{few_in_map}
 use Rattle.placement_chooser.proofs.Alone.{least_most}
 use Rattle.placement_chooser.proofs.offers.offer_beside.Goals as goal
@@ -8,14 +7,10 @@ pub overflow_add-result : goal.overflow_add-result
 overflow_add-result g c = omega (arith, few_in_map c.args.free.now.memory c.requires.proper, c.requires.entries)
 
 pub overflow_sub-result : goal.overflow_sub-result
-overflow_sub-result g c =
-    let least = subst (λ m. IsTrueLeast m c.args.request.now c.block_of-entry.result (Some (c.in-Some.price, c.in-Some.start))) c.requires.memory c.in-Some.ensures.least in
-    omega (arith, least_most c.args.free.now.memory c.args.request.now c.block_of-entry.result c.in-Some.price c.in-Some.start c.requires.proper c.requires.good least, c.requires.entries)
+overflow_sub-result g c = omega (arith, least_most c.args.free.now.memory c.args.request.now c.args.free.now.entry c.in-Some.price c.in-Some.start c.requires.proper c.requires.good c.in-Some.ensures.least, c.requires.entries)
 
 pub returns-in-Some-clause-offer : goal.returns-in-Some-clause-offer
 returns-in-Some-clause-offer g c =
-    let m = c.args.free.now.memory in
-    let r = c.args.request.now in
-    let least = subst (λ n. IsTrueLeast n r c.block_of-entry.result (Some (c.in-Some.price, c.in-Some.start))) c.requires.memory c.in-Some.ensures.least in
-    let most = least_most m r c.block_of-entry.result c.in-Some.price c.in-Some.start c.requires.proper c.requires.good least in
-    (Some (c.in-Some.price, c.in-Some.start), subst (λ d. IsTrueLeast m r d (Some (c.in-Some.price, c.in-Some.start))) (c.block_of-entry.ensures ∙ c.run.ensures) least, (omega (arith, most, c.requires.entries), omega (arith, most), refl))
+    let least = c.in-Some.ensures.least in
+    let most = least_most c.args.free.now.memory c.args.request.now c.args.free.now.entry c.in-Some.price c.in-Some.start c.requires.proper c.requires.good least in
+    (Some (c.in-Some.price, c.in-Some.start), least, (omega (arith, most, c.requires.entries), omega (arith, most), refl))

@@ -1,0 +1,60 @@
+//! What a certificate says of one conventional entry.
+ghost use Rattle.std.specs.Prelude.{◌≡◌, ℕ, ◌+◌, ◌^◌, ◌<◌, ◌≤◌, Option, length, Contains};
+ghost use Rattle.page_ranges.specs.MemoryTypes.{conventional};
+ghost use Rattle.page_ranges.specs.Memory.{IsProperMemory};
+ghost use Rattle.page_ranges.specs.MemoryMap.{memory_map};
+ghost use Rattle.placement_certificate.specs.Certificates.{IsTrueLeast};
+ghost use Rattle.placement_certificate.specs.Placement.{IsProperRequest};
+ghost use Rattle.placement_chooser.specs.Starts.{IsOfferOf};
+
+use crate::offers::{Offer, least_beside, offer_alone};
+use descriptor_table::{FreeRun, RunCursor};
+use page_ranges::is_specific_purpose;
+use placement_certificate::{EntrySearch, PricedStart, Request};
+use std::alloc::Allocator;
+
+// The start of an offer with its price, given how many entries the map has.
+#[inline(always)]
+fn priced(entries: u64, offer: Offer) -> Option<PricedStart>
+    requires entries { entries + 3 < 2 ^ 64 }
+    requires saving { offer.saving ≤ entries + 3 }
+    ensures { (least : Option (ℕ × ℕ)) → IsOfferOf entries least offer → result ≡ least }
+{
+    if offer.saving == 0 {
+        return None;
+    }
+    Some((entries + 3 - offer.saving, offer.start))
+}
+
+/// The best start of a request in a conventional entry, with its price, given how many entries the map has.
+#[inline(always)]
+pub(crate) fn least_in<B: Allocator + Copy>(
+    search: &mut EntrySearch<RunCursor<'_, B>>,
+    request: &Request,
+    entries: u64,
+    free: &FreeRun<'_, B>,
+) -> Option<PricedStart>
+    requires memory { search.old ≡ free.now.memory }
+    requires proper { IsProperMemory free.now.memory }
+    requires good { IsProperRequest request.now }
+    requires entries { entries ≡ length (memory_map free.now.memory) }
+    requires entry { Contains (memory_map free.now.memory) free.now.entry }
+    requires free { free.now.entry.mtype ≡ conventional }
+    ensures stays { search.new ≡ search.old }
+    ensures least { IsTrueLeast free.now.memory request.now free.now.entry result }
+{
+    if free.goes_on() {
+        return least_beside(search, request, entries, free);
+    }
+    let run = free.run();
+    if run.range.pages < request.pages {
+        return None;
+    }
+    if request.granule != 1 {
+        return least_beside(search, request, entries, free);
+    }
+    if is_specific_purpose(run.attributes) {
+        return None;
+    }
+    priced(entries, offer_alone(request, free))
+}
