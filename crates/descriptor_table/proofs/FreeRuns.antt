@@ -1,20 +1,18 @@
 -- Conventional runs: each is an entry of the map.
-use Rattle.std.proofs.Common.{◌≡◌, ◌≢◌, ℕ, zero, suc, ◌+◌, ◌-◌, ◌<◌, ◌≤◌, Bool, true, false, ◌&&◌, true≢false, eqb, List, [], ◌∷◌, length, get_or, drop, filter, Contains, Option, Some, None, inl, inr, refl, sym, subst, ap, ◌∙◌, arith}
+use Rattle.std.proofs.Common.{◌≡◌, ◌≢◌, ℕ, zero, suc, ◌+◌, ◌-◌, ◌<◌, ◌≤◌, Bool, true, false, ◌&&◌, true≢false, eqb, List, [], ◌∷◌, length, get_or, filter, Option, Some, None, inl, inr, refl, sym, subst, ap, ◌∙◌, arith}
 use Rattle.std.specs.List.{AllByRecursion}
-use Rattle.std.proofs.lemmas.Bool.{cases_Bool, cases_eq, eq-eqb, ne_eqb, eqb-true, and_parts, and_from}
-use Rattle.std.proofs.lemmas.List.{drop_more, get_or_default}
+use Rattle.std.proofs.lemmas.Bool.{cases_Bool, eq-eqb, ne_eqb, eqb-true, and_parts, and_from}
+use Rattle.std.proofs.lemmas.List.{get_or_default}
 use Rattle.std.proofs.lemmas.Option.{get_or_from_slice_get, slice_get_within}
 use Rattle.std.specs.Prelude.{slice_get}
 use Rattle.page_ranges.specs.declared.ranges.Descriptor.{Descriptor}
 use Rattle.page_ranges.specs.declared.ranges.Run.{Run}
-use Rattle.page_ranges.specs.declared.ranges.Owner.TheVariants.{Given}
 use Rattle.page_ranges.specs.MemoryTypes.{conventional}
 use Rattle.page_ranges.specs.Memory.{Page, page_at, IsProperMemory}
 use Rattle.page_ranges.specs.MemoryMap.{memory_map, IsLike}
 use Rattle.page_ranges.specs.Cursors.{IsBlock, IsBlockAt}
 use Rattle.page_ranges.specs.Runs.{pages_of, is_same_owner, should_be_one_run, AreRuns, AreMaximalRuns}
 use Rattle.page_ranges.proofs.MaximalRuns.{maximal_are_runs}
-use Rattle.page_ranges.proofs.Members.{member_first, member_later, member_cases}
 use Rattle.page_ranges.proofs.RunLists.{IsProperRun, proper_runs, ends_before, some_pages_at}
 use Rattle.page_ranges.proofs.RunMaps.{runs_join, map_of_last, map_joined, map_apart, first_block}
 use Rattle.descriptor_table.specs.Tables.{entry_of, IsBlockBelow}
@@ -24,38 +22,11 @@ use Rattle.descriptor_table.proofs.Order.{firsts_rise}
 abbrev pub is_free : Descriptor → Bool
 is_free e = eqb e.mtype conventional
 
--- the conventional entries of the runs from an index on
-abbrev pub free_from : List Run → ℕ → List Descriptor
-free_from rs i = filter is_free (memory_map (pages_of (drop i rs)))
-
-pub maximal_drop : (rs : List Run) (i : ℕ) → AreMaximalRuns rs → AreMaximalRuns (drop i rs)
-maximal_drop rs zero a = a
-maximal_drop [] (suc i) a = tt
-maximal_drop (r ∷ rs) (suc i) a = maximal_drop rs i a.3
-
-proper_drop : (rs : List Run) (i : ℕ) → AllByRecursion IsProperRun rs → AllByRecursion IsProperRun (drop i rs)
-proper_drop rs zero a = a
-proper_drop [] (suc i) a = tt
-proper_drop (r ∷ rs) (suc i) a = proper_drop rs i a.1
-
 kept : (e : Descriptor) (es : List Descriptor) → e.mtype ≡ conventional → filter is_free (e ∷ es) ≡ e ∷ filter is_free es
 kept e es free = rw (eq-eqb e.mtype conventional free) refl
 
 left_out : (e : Descriptor) (es : List Descriptor) → e.mtype ≢ conventional → filter is_free (e ∷ es) ≡ filter is_free es
 left_out e es other = rw (ne_eqb e.mtype conventional other) refl
-
-member_filter : (es : List Descriptor) (e : Descriptor) → Contains (filter is_free es) e → Contains es e
-member_filter [] e c = c
-member_filter (d ∷ es) e c = elim (cases_Bool (is_free d)) [
-  | inl t ↦ elim (member_cases d (filter is_free es) e (rw t at c)) [
-    | inl same ↦ subst (λ x. Contains (d ∷ es) x) same (member_first d es)
-    | inr m ↦ member_later d es e (member_filter es e m)
-  ]
-  | inr f ↦ member_later d es e (member_filter es e (rw f at c))
-]
-
-abbrev no_run : Run
-no_run = record { range = record { first = 0; pages = 0 }; mtype = 0; attributes = 0; owner = Given }
 
 -- two conventional runs that touch and are alike would be one
 free_apart : (r s : Run) → IsProperRun r → IsProperRun s → r.mtype ≡ conventional → should_be_one_run r s ≡ false → runs_join r s ≡ false
@@ -103,15 +74,6 @@ module _ (rs : List Run) (maximal : AreMaximalRuns rs) (proper : IsProperMemory 
   each = proper_runs rs runs proper
 
   module _ (i : ℕ) (r : Run) (h : i < length rs) (at : r ≡ get_or rs i r) where
-    from_here : drop i rs ≡ r ∷ drop (i + 1) rs
-    from_here = drop_more rs i r h ∙ ap (λ s. s ∷ drop (i + 1) rs) (sym at)
-
-    pub free_here : r.mtype ≡ conventional → free_from rs i ≡ entry_of r ∷ free_from rs (i + 1)
-    free_here free = ap (λ ss. filter is_free (memory_map (pages_of ss))) from_here ∙ free_run r (drop (i + 1) rs) (subst AreMaximalRuns from_here (maximal_drop rs i maximal)) (subst (AllByRecursion IsProperRun) from_here (proper_drop rs i each)) free
-
-    pub passed_here : r.mtype ≢ conventional → free_from rs i ≡ free_from rs (i + 1)
-    passed_here other = ap (λ ss. filter is_free (memory_map (pages_of ss))) from_here ∙ other_run r (drop (i + 1) rs) (subst AreMaximalRuns from_here (maximal_drop rs i maximal)) other
-
     -- the run's pages
     run_block : IsBlock (pages_of rs) (entry_of r)
     run_block k j = subst (IsLike (entry_of r)) (sym (held_by rs i r k runs h at j.low j.high)) (refl, refl)
@@ -123,23 +85,6 @@ module _ (rs : List Run) (maximal : AreMaximalRuns rs) (proper : IsProperMemory 
     -- the runs up to this one end by its end
     ended : (k : ℕ) → r.range.first + r.range.pages ≤ k → (j : ℕ) (d : Run) → j < i + 1 → (get_or rs j d).range.first + (get_or rs j d).range.pages ≤ k
     ended k l = ends_by rs i r k runs h at l
-
-  -- the conventional entries that are left are entries of the map
-  left_in_all : (i : ℕ) (e : Descriptor) → i ≤ length rs → Contains (free_from rs i) e → Contains (free_from rs 0) e
-  left_in_all zero e h c = c
-  left_in_all (suc i) e h c =
-      let r = get_or rs i no_run in
-      let at : r ≡ get_or rs i r = get_or_default rs i no_run r (omega arith) in
-      let k : suc i ≡ i + 1 = omega arith in
-      let rest : Contains (free_from rs (i + 1)) e = rw k at c in
-      left_in_all i e (omega arith) (elim (cases_eq r.mtype conventional) [
-        | inl free ↦ subst (λ es. Contains es e) (sym (free_here i r (omega arith) at free)) (member_later (entry_of r) (free_from rs (i + 1)) e rest)
-        | inr other ↦ subst (λ es. Contains es e) (sym (passed_here i r (omega arith) at other)) rest
-      ])
-
-  pub free_member : (i : ℕ) (r : Run) → i < length rs → r ≡ get_or rs i r → r.mtype ≡ conventional → Contains (memory_map (pages_of rs)) (entry_of r)
-  free_member i r h at free =
-      member_filter (memory_map (pages_of rs)) (entry_of r) (left_in_all i (entry_of r) (omega arith) (subst (λ es. Contains es (entry_of r)) (sym (free_here i r h at free)) (member_first (entry_of r) (free_from rs (i + 1)))))
 
   -- ---- what lies beside the run at an index
 

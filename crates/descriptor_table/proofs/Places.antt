@@ -1,9 +1,8 @@
 -- A walk along runs, and places among them.
-use Rattle.std.proofs.Common.{◌≡◌, ◌≢◌, ℕ, zero, suc, true, false, ◌+◌, ◌<◌, ◌≤◌, List, [], ◌∷◌, length, length-drop, get_or, drop, Contains, Option, Some, None, refl, sym, subst, ap, ◌∙◌, arith, IfSome}
+use Rattle.std.proofs.Common.{◌≡◌, ◌≢◌, ℕ, zero, suc, true, false, ◌+◌, ◌<◌, ◌≤◌, List, [], ◌∷◌, length, length-drop, get_or, drop, Option, Some, None, refl, sym, subst, ap, ◌∙◌, arith, IfSome}
 use Rattle.std.specs.Prelude.{slice_get}
 use Rattle.std.proofs.lemmas.Option.{get_or_from_slice_get, slice_get_within, slice_get-get_or}
 use Rattle.page_ranges.specs.declared.ranges.Run.{Run}
-use Rattle.page_ranges.specs.MemoryTypes.{conventional}
 use Rattle.page_ranges.specs.Memory.{page_at, IsProperMemory}
 use Rattle.page_ranges.specs.Cursors.{IsBlockAt}
 use Rattle.page_ranges.specs.MemoryMap.{memory_map, should_be_one}
@@ -11,29 +10,17 @@ use Rattle.page_ranges.specs.Runs.{pages_of, AreRuns, AreMaximalRuns}
 use Rattle.page_ranges.proofs.RunMaps.{map_apart}
 use Rattle.descriptor_table.specs.Tables.{entry_of, EndBy, IsBlockBelow}
 use Rattle.descriptor_table.specs.Leaves.{RunPlace, PassesRun, IsPlace, run_before, runs_with_first}
-use Rattle.descriptor_table.proofs.FreeRuns.{free_from, free_here, free_member, above_touching, above_gap, above_last, below_touching, below_gap, below_first}
+use Rattle.descriptor_table.proofs.FreeRuns.{above_touching, above_gap, above_last, below_touching, below_gap, below_first}
 use Rattle.descriptor_table.proofs.EntryRuns.{stretched, entry_to, goes_on_in, ends_before_next, ends_at_last}
-
--- the run that comes next is the one that is passed
-pub passes : (old new : RunPlace) (o : Option Run) (r : Run) → PassesRun old o new → slice_get old.rest 0 ≡ Some r → (old.rest ≡ r ∷ new.rest) × (new.before ≡ Some r)
-passes old new None r p e = absurd (let none = rw p.0 at e in cc)
-passes old new (Some q) r p e =
-    let first = rw p.0 at e in
-    let same : q ≡ r = cc in
-    (p.0 ∙ ap (λ x. x ∷ new.rest) same, p.1 ∙ ap (λ (x : Run). Some x) same)
 
 pub none_next : (rs : List Run) → slice_get rs 0 ≡ None → rs ≡ []
 none_next [] e = refl
 none_next (r ∷ rs) e = absurd cc
 
-pub some_next : (rs : List Run) (r : Run) → slice_get rs 0 ≡ Some r → (ss : List Run) × (rs ≡ r ∷ ss)
-some_next [] r e = absurd cc
-some_next (q ∷ rs) r e = let same : q ≡ r = cc in (rs, ap (λ x. x ∷ rs) same)
-
 -- the runs that are to come are the one that is passed now and those after it
-pub passed_first : (old new : RunPlace) (o : Option Run) → PassesRun old o new → old.rest ≡ runs_with_first o new.rest
+pub passed_first : (old new : List Run) (o : Option Run) → PassesRun old o new → old ≡ runs_with_first o new
 passed_first old new None p = p.0
-passed_first old new (Some r) p = p.0
+passed_first old new (Some r) p = p
 
 -- ---- the runs of an entry
 
@@ -68,14 +55,6 @@ at_place [] (suc i) r ss e = absurd cc
 at_place (q ∷ rs) zero r ss e = (omega arith, let same : q ≡ r = cc in ap (λ (x : Run). Some x) same, cc)
 at_place (q ∷ rs) (suc i) r ss e = let h = at_place rs i r ss e in (omega (arith, h.0), h.1, h.2)
 
-pub place_passed : (rs : List Run) (old new : RunPlace) (r : Run) → old.rest ≡ r ∷ new.rest → new.before ≡ Some r → IsPlace rs old → IsPlace rs new
-place_passed rs old new r e b p =
-    let h = at_place rs p.index r new.rest (sym e ∙ p.to_come) in
-    record { index = suc p.index; bound = omega (arith, h.0); to_come = h.2; passed = b ∙ sym h.1 }
-
-pub place_first : (rs : List Run) (p : RunPlace) → p.before ≡ None → p.rest ≡ rs → IsPlace rs p
-place_first rs p b e = record { index = 0; bound = omega arith; to_come = e; passed = b }
-
 get_ends : (n : ℕ) (rs : List Run) (i : ℕ) → EndBy n rs → i < length rs → IfSome (slice_get rs i) (λ r. r.range.first + r.range.pages ≤ n)
 get_ends n [] i a h = absurd (omega arith)
 get_ends n (r ∷ rs) zero a h = a.0
@@ -106,14 +85,6 @@ module _ (rs ss : List Run) (r : Run) (o : Option Run) (maximal : AreMaximalRuns
 
   read_run : (i : ℕ) (x : Run) → slice_get rs i ≡ Some x → x ≡ get_or rs i x
   read_run i x e = sym (get_or_from_slice_get rs i x x e)
-
-  pub is_free_here : (p : place) → r.mtype ≡ conventional → (free_from (r ∷ ss) 0 ≡ entry_of r ∷ free_from ss 0) × Contains (memory_map (pages_of rs)) (entry_of r)
-  is_free_here p free =
-      let h = here p in
-      let at = read_run p.index r h.1 in
-      let k : p.index + 1 ≡ suc p.index = omega arith in
-      let all = free_here rs maximal proper p.index r h.0 at free in
-      (ap (λ xs. free_from xs 0) p.to_come ∙ all ∙ ap (λ xs. entry_of r ∷ free_from xs 0) (ap (λ i. drop i rs) k ∙ sym h.2), free_member rs maximal proper p.index r h.0 at free)
 
   -- the run above
   pub above_touches : place → (s : Run) → slice_get ss 0 ≡ Some s → r.range.first + r.range.pages ≡ s.range.first → IsBlockAt (pages_of rs) (r.range.first + r.range.pages) (Some (entry_of s))
@@ -170,6 +141,3 @@ pub next_ends : (n : ℕ) (rs ss : List Run) (r : Run) (o : Option Run) → EndB
 next_ends n rs ss r o a p =
     let h = at_place rs p.index r ss p.to_come in
     subst (λ x. IfSome x (λ r. r.range.first + r.range.pages ≤ n)) h.1 (get_ends n rs p.index a h.0)
-
-pub same_place : (rs ss : List Run) (p : RunPlace) (o : Option Run) → p.before ≡ o → p.rest ≡ ss → IsPlace rs p → IsPlace rs (record { before = o; rest = ss })
-same_place rs ss p o e f h = record { index = h.index; bound = h.bound; to_come = sym f ∙ h.to_come; passed = sym e ∙ h.passed }

@@ -5,7 +5,6 @@ use Rattle.std.proofs.lemmas.Bool.{eq-eqb, ne_eqb}
 use Rattle.std.proofs.lemmas.List.{drop_more, drop_all}
 use Rattle.std.proofs.lemmas.Nat.Bits.{bit_at-zero}
 use Rattle.std.proofs.lemmas.Option.{get_or_from_slice_get}
-use Rattle.page_ranges.specs.declared.ranges.Descriptor.{Descriptor}
 use Rattle.page_ranges.specs.declared.ranges.Run.{Run}
 use Rattle.page_ranges.specs.MemoryTypes.{conventional}
 use Rattle.descriptor_table.specs.Leaves.{leaf_at, runs_in}
@@ -61,7 +60,3 @@ leaf_first ls j h = ap (λ l. entries_of (runs_in l)) (drop_more ls j [] h) ∙ 
 -- a leaf without a mark has none
 pub leaf_passed : (ls : List (List Run)) (j marks : ℕ) → j < length ls → MarksFree marks (leaf_at ls j) → marks ≡ 0 → entries_from ls j ≡ entries_from ls (j + 1)
 leaf_passed ls j marks h m none = leaf_first ls j h ∙ ap (λ ds. ds ++ entries_from ls (j + 1)) (none_left marks (leaf_at ls j) m 0 (omega arith) (λ k low high. ap (λ x. bit_at x k) none ∙ bit_at-zero k))
-
--- no leaf is left
-pub no_leaf_left : (ls : List (List Run)) (j : ℕ) → length ls ≤ j → entries_from ls j ≡ []
-no_leaf_left ls j h = ap (λ l. entries_of (runs_in l)) (drop_all j ls h)

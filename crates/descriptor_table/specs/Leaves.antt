@@ -72,15 +72,10 @@ pub record AreLeavesNear (ls : List (List Run)) (range : PageRange) (low high : 
 
 -- ---- a walk along runs
 
--- the run that was passed last, and the runs that are still to come
-pub record RunPlace : Type 0 where
-  pub before : Option Run
-  pub rest : List Run
-
--- the answer is the next run, which is passed now; or none is left
-abbrev pub PassesRun : RunPlace → Option Run → RunPlace → Type 0
-PassesRun old None new = (old.rest ≡ []) × (new ≡ old)
-PassesRun old (Some r) new = (old.rest ≡ r ∷ new.rest) × (new.before ≡ Some r)
+-- the answer is the next run, and the others are left; or none is left
+abbrev pub PassesRun : List Run → Option Run → List Run → Type 0
+PassesRun old None new = (old ≡ []) × (new ≡ old)
+PassesRun old (Some r) new = old ≡ r ∷ new
 
 -- the runs from one on that was passed last; none where there is no such run
 abbrev pub runs_with_first : Option Run → List Run → List Run
@@ -91,6 +86,11 @@ runs_with_first (Some r) rs = r ∷ rs
 abbrev pub run_before : List Run → ℕ → Option Run
 run_before rs zero = None
 run_before rs (suc i) = slice_get rs i
+
+-- the run that was passed last, and the runs that are still to come
+pub record RunPlace : Type 0 where
+  pub before : Option Run
+  pub rest : List Run
 
 -- a place among runs: those from an index on are to come
 pub record IsPlace (rs : List Run) (p : RunPlace) : Type 0 where

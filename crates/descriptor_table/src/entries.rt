@@ -4,7 +4,7 @@ ghost use Rattle.std.specs.Iterator.{YieldsFirst, item_count};
 ghost use Rattle.page_ranges.specs.MemoryTypes.{page_count};
 ghost use Rattle.page_ranges.specs.MemoryMap.{memory_map, should_be_one};
 ghost use Rattle.page_ranges.specs.Runs.{pages_of, AreRuns};
-ghost use Rattle.descriptor_table.specs.Leaves.{runs_in, runs_with_first, entry_count, AreLeaves, PassesRun};
+ghost use Rattle.descriptor_table.specs.Leaves.{runs_in, runs_with_first, entry_count, AreLeaves};
 ghost use Rattle.descriptor_table.specs.LeafWalks.{entry_up_to, map_from, map_of_runs};
 ghost use Rattle.descriptor_table.specs.Tables.{entry_of, EndBy};
 
@@ -74,10 +74,10 @@ impl<'a, A: Allocator> Model for MapEntries<'a, A> {
 
     ghost Value = { List Descriptor };
 
-    ghost view = { λ e. map_from (option_map (λ r. r.now) e.first) e.walk.rest };
+    ghost view = { λ e. map_from (option_map (λ r. r.now) e.first) e.walk };
 
     ghost invariant = { λ e. AreRunsOfPages
-        (runs_with_first (option_map (λ r. r.now) e.first) e.walk.rest) };
+        (runs_with_first (option_map (λ r. r.now) e.first) e.walk) };
 }
 
 impl<'a, A: Allocator + Copy> MapEntries<'a, A> {
@@ -117,15 +117,15 @@ fn end_of_entry<'a, A: Allocator + Copy>(
     first: &'a Run,
     walk: &mut Walk<'a, A>,
 ) -> (u64, Option<&'a Run>)
-    requires runs { AreRuns (first.now ∷ walk.old.rest) }
-    requires ends { EndBy page_count (first.now ∷ walk.old.rest) }
+    requires runs { AreRuns (first.now ∷ walk.old) }
+    requires ends { EndBy page_count (first.now ∷ walk.old) }
     ensures low { first.now.range.first ≤ result.0 }
-    ensures runs { AreRuns (runs_with_first (option_map (λ r. r.now) result.1) walk.new.rest) }
+    ensures runs { AreRuns (runs_with_first (option_map (λ r. r.now) result.1) walk.new) }
     ensures ends { EndBy page_count
-        (runs_with_first (option_map (λ r. r.now) result.1) walk.new.rest) }
-    ensures entry { map_of_runs (first.now ∷ walk.old.rest)
+        (runs_with_first (option_map (λ r. r.now) result.1) walk.new) }
+    ensures entry { map_of_runs (first.now ∷ walk.old)
         ≡ entry_up_to first.now result.0
-        ∷ map_from (option_map (λ r. r.now) result.1) walk.new.rest }
+        ∷ map_from (option_map (λ r. r.now) result.1) walk.new }
 {
     let mut last = first;
     while let Some(run) = walk.next() {
@@ -141,7 +141,7 @@ fn end_of_entry<'a, A: Allocator + Copy>(
 #[inline(always)]
 fn next_apart<'a, A: Allocator + Copy>(run: &Run, walk: &mut Walk<'a, A>) -> Option<&'a Run>
     requires { run.now.range.first + run.now.range.pages < 2 ^ 64 }
-    ensures passed { IfSome result (λ next. PassesRun walk.old (Some next.now) walk.new) }
+    ensures passed { IfSome result (λ next. walk.old ≡ next.now ∷ walk.new) }
     ensures apart { IfSome result
         (λ next. should_be_one (entry_of run.now) (entry_of next.now) ≡ false) }
     ensures none { result ≡ None → walk.new ≡ walk.old }

@@ -352,7 +352,7 @@ impl<A: Allocator + Copy> RunTable<A> {
         MapEntries::new(self.leaves.as_slice())
     }
 
-    /// The conventional entries of the memory map, with what lies beside each.
+    /// The conventional entries of the memory map by ascending page.
     pub fn free_entries(&self) -> FreeEntries<'_, A>
         ensures memory { result.memory ≡ self.now.pages }
         ensures entries { result.entries ≡ filter (λ e. e.mtype == conventional)

@@ -43,18 +43,17 @@ pub(crate) fn least_in<B: Allocator + Copy>(
     ensures stays { search.new ≡ search.old }
     ensures least { IsTrueLeast free.now.memory request.now free.now.entry result }
 {
-    if free.goes_on() {
-        return least_beside(search, request, entries, free);
+    if !free.goes_on() {
+        let run = free.run();
+        if run.range.pages < request.pages {
+            return None;
+        }
+        if is_specific_purpose(run.attributes) {
+            return None;
+        }
+        if request.granule == 1 {
+            return priced(entries, offer_alone(request, free));
+        }
     }
-    let run = free.run();
-    if run.range.pages < request.pages {
-        return None;
-    }
-    if request.granule != 1 {
-        return least_beside(search, request, entries, free);
-    }
-    if is_specific_purpose(run.attributes) {
-        return None;
-    }
-    priced(entries, offer_alone(request, free))
+    least_beside(search, request, entries, free)
 }

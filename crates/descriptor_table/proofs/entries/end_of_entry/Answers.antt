@@ -10,17 +10,17 @@ loop-run-init g c = record {
   low = omega arith;
   runs = c.requires.runs;
   ends = c.requires.ends;
-  entry = stretched_first c.args.first.now c.args.walk.now.rest c.requires.runs;
+  entry = stretched_first c.args.first.now c.args.walk.now c.requires.runs;
 }
 
 pub loop-run-preserved : goal.loop-run-preserved
 loop-run-preserved g c =
     let i = c.loop-run.invariant in
-    let old = c.loop-run.walk.rest in
-    let new = c.next.new.self.rest in
+    let old = c.loop-run.walk in
+    let new = c.next.new.self in
     let last = c.loop-run.last.now in
     let run = c.in-Some.run'.now in
-    let p = c.in-Some.ensures.0 in
+    let p = c.in-Some.ensures in
     record {
       low = omega (arith, i.low, next_from c.args.first.now last run old new p i.runs);
       runs = next_runs c.args.first.now last run old new p i.runs;
@@ -31,11 +31,11 @@ loop-run-preserved g c =
 pub returns-then-not-goes_on : goal.returns-then-not-goes_on
 returns-then-not-goes_on g c =
     let i = c.loop-run.invariant in
-    let old = c.loop-run.walk.rest in
-    let new = c.next.new.self.rest in
+    let old = c.loop-run.walk in
+    let new = c.next.new.self in
     let last = c.loop-run.last.now in
     let run = c.in-Some.run'.now in
-    let p = c.in-Some.ensures.0 in
+    let p = c.in-Some.ensures in
     record {
       low = omega (arith, i.low);
       runs = next_runs c.args.first.now last run old new p i.runs;
@@ -46,7 +46,7 @@ returns-then-not-goes_on g c =
 pub returns-clause-entry : goal.returns-clause-entry
 returns-clause-entry g c =
     let i = c.loop-run.invariant in
-    i.entry ∙ last_entry_done c.args.first.now c.loop-run.last.now c.loop-run.walk.rest c.in_default.ensures.0 i.runs
+    i.entry ∙ last_entry_done c.args.first.now c.loop-run.last.now c.loop-run.walk c.in_default.ensures.0 i.runs
 
 pub next-requires : goal.next-requires
 next-requires g c = λ κs low. low

@@ -10,10 +10,10 @@ use Rattle.descriptor_table.proofs.entries.end_of_entry.Given as goal
 abbrev pub invariant-loop-run : goal.invariant-loop-run
 invariant-loop-run g l = record {
   low : l.first.range.first ≤ l.last.range.first;
-  runs : AreRuns (l.last ∷ l.walk.rest);
-  ends : EndBy page_count (l.last ∷ l.walk.rest);
-  entry : memory_map (pages_of (l.first ∷ l.fn.walk.rest)) ≡ stretched l.first (memory_map (pages_of (l.last ∷ l.walk.rest)));
+  runs : AreRuns (l.last ∷ l.walk);
+  ends : EndBy page_count (l.last ∷ l.walk);
+  entry : memory_map (pages_of (l.first ∷ l.fn.walk)) ≡ stretched l.first (memory_map (pages_of (l.last ∷ l.walk)));
 }
 
 abbrev pub decreases-loop-run : goal.decreases-loop-run
-decreases-loop-run g l = length l.walk.rest
+decreases-loop-run g l = length l.walk

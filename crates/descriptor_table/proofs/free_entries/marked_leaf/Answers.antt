@@ -1,4 +1,4 @@
-use Rattle.std.proofs.Common.{◌+◌, [], subst, ◌∙◌, arith}
+use Rattle.std.proofs.Common.{[], subst, ◌∙◌, arith}
 use Rattle.std.proofs.lemmas.List.{get_or_default}
 use Rattle.descriptor_table.specs.LeafSummaries.{MarksFree}
 use Rattle.descriptor_table.proofs.Upward.{leaf_passed}

@@ -9,7 +9,7 @@ use Rattle.placement_chooser.proofs.Alone.{saves_at_most, too_short}
 use Rattle.placement_chooser.proofs.bounds.least_in.Goals as goal
 
 pub returns-then-run-request-clause-least : goal.returns-then-run-request-clause-least
-returns-then-run-request-clause-least g c = too_short c.args.free.now.memory c.args.request.now c.args.free.now.entry (λ k. true≢false (sym (c.goes_on.ensures.1 k) ∙ c.if-goes_on.false)) (omega (arith, c.if-run-request.true, ap (λ (d : Descriptor). d.pages) c.run-run.ensures))
+returns-then-run-request-clause-least g c = too_short c.args.free.now.memory c.args.request.now c.args.free.now.entry (λ k. true≢false (sym (c.goes_on.ensures.1 k) ∙ c.if-not-goes_on.true)) (omega (arith, c.if-run-request.true, ap (λ (d : Descriptor). d.pages) c.run-run.ensures))
 
 pub returns-then-is_specific_purpose-clause-least : goal.returns-then-is_specific_purpose-clause-least
 returns-then-is_specific_purpose-clause-least g c =
@@ -17,7 +17,7 @@ returns-then-is_specific_purpose-clause-least g c =
     none_permitted c.args.free.now.memory c.args.request.now c.args.free.now.entry c.requires.proper c.requires.good c.requires.entry special
 
 pub offer_alone-requires-clause-behind : goal.offer_alone-requires-clause-behind
-offer_alone-requires-clause-behind g c = λ k. true≢false (sym (c.goes_on.ensures.1 k) ∙ c.if-goes_on.false)
+offer_alone-requires-clause-behind g c = λ k. true≢false (sym (c.goes_on.ensures.1 k) ∙ c.if-not-goes_on.true)
 
 pub priced-requires-clause-entries : goal.priced-requires-clause-entries
 priced-requires-clause-entries g c = omega (arith, few_in_map c.args.free.now.memory c.requires.proper, c.requires.entries)
@@ -25,7 +25,7 @@ priced-requires-clause-entries g c = omega (arith, few_in_map c.args.free.now.me
 pub priced-requires-clause-saving : goal.priced-requires-clause-saving
 priced-requires-clause-saving g c = let offered = c.offer_alone.ensures in omega (arith, saves_at_most _ offered.0 c.offer_alone.result offered.2, c.requires.entries)
 
-pub returns-clause-least : goal.returns-clause-least
-returns-clause-least g c =
+pub returns-then-request-eq1-clause-least : goal.returns-then-request-eq1-clause-least
+returns-then-request-eq1-clause-least g c =
     let offered = c.offer_alone.ensures in
     subst (IsTrueLeast c.args.free.now.memory c.args.request.now c.args.free.now.entry) (sym (c.priced.ensures offered.0 (subst (λ n. IsOfferOf n offered.0 c.offer_alone.result) (sym c.requires.entries) offered.2))) offered.1

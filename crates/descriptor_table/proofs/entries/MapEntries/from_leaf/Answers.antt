@@ -29,19 +29,19 @@ returns-in_default g c =
 pub end_of_entry-requires-clause-runs : goal.end_of_entry-requires-clause-runs
 end_of_entry-requires-clause-runs g c =
     let last = c.in-Some.last.now in
-    subst (λ rs. AreRuns (last ∷ rs)) (sym (c.new-walk.ensures.rest ∙ rest_of_leaves c.args.leaves.now c.args.index)) (from_last c.args.leaves.now c.args.index c.runs_before.result.now c.runs_before.ensures last c.in-Some.ensures.value AreRuns runs-right c.requires.runs)
+    subst (λ rs. AreRuns (last ∷ rs)) (sym (c.new-walk.ensures ∙ rest_of_leaves c.args.leaves.now c.args.index)) (from_last c.args.leaves.now c.args.index c.runs_before.result.now c.runs_before.ensures last c.in-Some.ensures.value AreRuns runs-right c.requires.runs)
 
 pub end_of_entry-requires-clause-ends : goal.end_of_entry-requires-clause-ends
 end_of_entry-requires-clause-ends g c =
     let last = c.in-Some.last.now in
-    subst (λ rs. EndBy page_count (last ∷ rs)) (sym (c.new-walk.ensures.rest ∙ rest_of_leaves c.args.leaves.now c.args.index)) (from_last c.args.leaves.now c.args.index c.runs_before.result.now c.runs_before.ensures last c.in-Some.ensures.value (EndBy page_count) (all_append_right (λ r. r.range.first + r.range.pages ≤ page_count)) c.requires.ends)
+    subst (λ rs. EndBy page_count (last ∷ rs)) (sym (c.new-walk.ensures ∙ rest_of_leaves c.args.leaves.now c.args.index)) (from_last c.args.leaves.now c.args.index c.runs_before.result.now c.runs_before.ensures last c.in-Some.ensures.value (EndBy page_count) (all_append_right (λ r. r.range.first + r.range.pages ≤ page_count)) c.requires.ends)
 
 pub returns : goal.returns
 returns g c =
     let last = c.in-Some.last.now in
     let ls = c.args.leaves.now in
     later_entries ls c.args.index c.runs_before.result.now c.runs_before.ensures last c.in-Some.ensures.value _ _ c.requires.runs
-    (ap (λ rs. memory_map (pages_of (last ∷ rs))) (sym (c.new-walk.ensures.rest ∙ rest_of_leaves c.args.leaves.now c.args.index)) ∙ c.end_of_entry.ensures.entry)
+    (ap (λ rs. memory_map (pages_of (last ∷ rs))) (sym (c.new-walk.ensures ∙ rest_of_leaves c.args.leaves.now c.args.index)) ∙ c.end_of_entry.ensures.entry)
 
 pub last-requires : goal.last-requires
 last-requires g c = λ κs. ⊑_static κs.1.0
