@@ -32,16 +32,16 @@ pub(crate) fn least_in<B: Allocator + Copy>(
     search: &mut EntrySearch<RunCursor<'_, B>>,
     request: &Request,
     entries: u64,
-    free: &FreeRun<'_, B>,
+    free: FreeRun<'_, B>,
 ) -> Option<PricedStart>
-    requires memory { search.old ≡ free.now.memory }
-    requires proper { IsProperMemory free.now.memory }
+    requires memory { search.old ≡ free.memory }
+    requires proper { IsProperMemory free.memory }
     requires good { IsProperRequest request.now }
-    requires entries { entries ≡ length (memory_map free.now.memory) }
-    requires entry { Contains (memory_map free.now.memory) free.now.entry }
-    requires free { free.now.entry.mtype ≡ conventional }
+    requires entries { entries ≡ length (memory_map free.memory) }
+    requires entry { Contains (memory_map free.memory) free.entry }
+    requires free { free.entry.mtype ≡ conventional }
     ensures stays { search.new ≡ search.old }
-    ensures least { IsTrueLeast free.now.memory request.now free.now.entry result }
+    ensures least { IsTrueLeast free.entry.memory request.now free.entry.entry result }
 {
     if !free.goes_on() {
         let run = free.run();
@@ -52,7 +52,7 @@ pub(crate) fn least_in<B: Allocator + Copy>(
             return None;
         }
         if request.granule == 1 {
-            return priced(entries, offer_alone(request, free));
+            return priced(entries, offer_alone(request, &free));
         }
     }
     least_beside(search, request, entries, free)

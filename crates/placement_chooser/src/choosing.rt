@@ -30,8 +30,8 @@ pub fn choose<A: Allocator + Copy, B: Allocator + Copy>(
     while let Some(mut leaf) = left.next_leaf() {
         while let Some(free) = leaf.next_entry() {
             let count = entries as u64;
-            let least = least_in(&mut search, request, count, &free);
             let range = free.run().range;
+            let least = least_in(&mut search, request, count, free);
             bounds.push_reserved(Bound {
                 first: range.first,
                 pages: range.pages,

@@ -63,16 +63,16 @@ pub(crate) fn least_beside<B: Allocator + Copy>(
     search: &mut EntrySearch<RunCursor<'_, B>>,
     request: &Request,
     entries: u64,
-    free: &FreeRun<'_, B>,
+    free: FreeRun<'_, B>,
 ) -> Option<PricedStart>
-    requires memory { search.old ≡ free.now.memory }
-    requires proper { IsProperMemory free.now.memory }
+    requires memory { search.old ≡ free.memory }
+    requires proper { IsProperMemory free.memory }
     requires good { IsProperRequest request.now }
-    requires entries { entries ≡ length (memory_map free.now.memory) }
-    requires entry { Contains (memory_map free.now.memory) free.now.entry }
-    requires free { free.now.entry.mtype ≡ conventional }
+    requires entries { entries ≡ length (memory_map free.memory) }
+    requires entry { Contains (memory_map free.memory) free.entry }
+    requires free { free.entry.mtype ≡ conventional }
     ensures stays { search.new ≡ search.old }
-    ensures least { IsTrueLeast free.now.memory request.now free.now.entry result }
+    ensures least { IsTrueLeast free.entry.memory request.now free.entry.entry result }
 {
     let below = free.below().map(block_of);
     let above = free.above().map(block_of);
@@ -86,16 +86,16 @@ fn offer_beside<B: Allocator + Copy>(
     search: &mut EntrySearch<RunCursor<'_, B>>,
     request: &Request,
     entries: u64,
-    free: &FreeRun<'_, B>,
+    free: FreeRun<'_, B>,
 ) -> Offer
-    requires memory { search.old ≡ free.now.memory }
-    requires proper { IsProperMemory free.now.memory }
+    requires memory { search.old ≡ free.memory }
+    requires proper { IsProperMemory free.memory }
     requires good { IsProperRequest request.now }
-    requires entries { entries ≡ length (memory_map free.now.memory) }
-    requires entry { Contains (memory_map free.now.memory) free.now.entry }
-    requires free { free.now.entry.mtype ≡ conventional }
+    requires entries { entries ≡ length (memory_map free.memory) }
+    requires entry { Contains (memory_map free.memory) free.entry }
+    requires free { free.entry.mtype ≡ conventional }
     ensures stays { search.new ≡ search.old }
-    ensures offer { IsOfferIn free.now.memory request.now free.now.entry result }
+    ensures offer { IsOfferIn free.entry.memory request.now free.entry.entry result }
 {
     match least_beside(search, request, entries, free) {
         Some((price, start)) => Offer {
@@ -167,17 +167,17 @@ pub(crate) fn offer_in<B: Allocator + Copy>(
     request: &Request,
     entries: u64,
     wanted: &Wanted,
-    free: &FreeRun<'_, B>,
+    free: FreeRun<'_, B>,
 ) -> Offer
-    requires memory { search.old ≡ free.now.memory }
-    requires proper { IsProperMemory free.now.memory }
+    requires memory { search.old ≡ free.memory }
+    requires proper { IsProperMemory free.memory }
     requires good { IsProperRequest request.now }
-    requires entries { entries ≡ length (memory_map free.now.memory) }
-    requires entry { Contains (memory_map free.now.memory) free.now.entry }
-    requires free { free.now.entry.mtype ≡ conventional }
+    requires entries { entries ≡ length (memory_map free.memory) }
+    requires entry { Contains (memory_map free.memory) free.entry }
+    requires free { free.entry.mtype ≡ conventional }
     requires wanted { IsWantedFor request.now wanted.now }
     ensures stays { search.new ≡ search.old }
-    ensures offer { OffersBest free.now.memory request.now wanted.now free.now.entry result }
+    ensures offer { OffersBest free.entry.memory request.now wanted.now free.entry.entry result }
 {
     if request.granule != 1 || free.goes_on() {
         return offer_beside(search, request, entries, free);
@@ -193,5 +193,5 @@ pub(crate) fn offer_in<B: Allocator + Copy>(
     if is_specific_purpose(run.attributes) {
         return NO_OFFER;
     }
-    offer_alone(request, free)
+    offer_alone(request, &free)
 }

@@ -27,7 +27,7 @@ pub fn best_start<B: Allocator + Copy>(table: &RunTable<B>, request: &Request) -
     let mut left = table.entries_down();
     while let Some(mut leaf) = left.next_leaf(&wanted) {
         while let Some(free) = leaf.next_entry() {
-            let offer = offer_in(&mut search, request, entries, &wanted, &free);
+            let offer = offer_in(&mut search, request, entries, &wanted, free);
             if best.saving < offer.saving {
                 best = offer;
                 wanted.gain = offer.saving - 1;

@@ -6,17 +6,17 @@ use Rattle.placement_chooser.proofs.Gains.{not_filled, too_small}
 use Rattle.placement_chooser.proofs.offers.offer_in.Goals as goal
 
 pub returns-then-run-request-clause-offer : goal.returns-then-run-request-clause-offer
-returns-then-run-request-clause-offer g c = inr (refl, too_small c.args.free.now.memory c.args.wanted.now c.args.free.now.entry (λ k. true≢false (sym (c.goes_on.ensures.1 k) ∙ c.if-goes_on.false)) (omega (arith, c.if-run-request.true, c.requires.wanted.pages, ap (λ (d : Descriptor). d.pages) c.run-run.ensures)))
+returns-then-run-request-clause-offer g c = inr (refl, too_small c.args.free.memory c.args.wanted.now c.args.free.entry (λ k. true≢false (sym (c.goes_on.ensures.1 k) ∙ c.if-goes_on.false)) (omega (arith, c.if-run-request.true, c.requires.wanted.pages, ap (λ (d : Descriptor). d.pages) c.run-run.ensures)))
 
 pub returns-then-run-request-2-clause-offer : goal.returns-then-run-request-2-clause-offer
 returns-then-run-request-2-clause-offer g c =
     let pages = ap (λ (d : Descriptor). d.pages) c.run-run.ensures in
-    inr (refl, not_filled c.args.free.now.memory c.args.wanted.now c.args.free.now.entry (λ k. true≢false (sym (c.goes_on.ensures.1 k) ∙ c.if-goes_on.false)) (λ e. c.if-run-request-2.true (pages ∙ sym e ∙ c.requires.wanted.pages)) c.if-wanted-gt1.true)
+    inr (refl, not_filled c.args.free.memory c.args.wanted.now c.args.free.entry (λ k. true≢false (sym (c.goes_on.ensures.1 k) ∙ c.if-goes_on.false)) (λ e. c.if-run-request-2.true (pages ∙ sym e ∙ c.requires.wanted.pages)) c.if-wanted-gt1.true)
 
 pub returns-then-is_specific_purpose-clause-offer : goal.returns-then-is_specific_purpose-clause-offer
 returns-then-is_specific_purpose-clause-offer g c =
     let special = ap (λ (d : Descriptor). is_specific_purpose d.attributes) (sym c.run-run.ensures) ∙ sym c.is_specific_purpose.ensures ∙ c.if-is_specific_purpose.true in
-    inl (None, none_permitted c.args.free.now.memory c.args.request.now c.args.free.now.entry c.requires.proper c.requires.good c.requires.entry special, refl)
+    inl (None, none_permitted c.args.free.memory c.args.request.now c.args.free.entry c.requires.proper c.requires.good c.requires.entry special, refl)
 
 pub offer_alone-requires-clause-behind : goal.offer_alone-requires-clause-behind
 offer_alone-requires-clause-behind g c = λ k. true≢false (sym (c.goes_on.ensures.1 k) ∙ c.if-goes_on.false)
