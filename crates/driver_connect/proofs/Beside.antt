@@ -90,7 +90,8 @@ plus_none n = omega arith
 pub may_leave_none : (t : HandleTable) → MayLeave [] t
 may_leave_none t = record { ascending = tt; given = tt; count = ap (λ (u : HandleTable). length u.handles + 0) (sym (handles_none t)) ∙ plus_none (length t.handles) }
 
-none_of : (p : ℕ → Bool) (n : ℕ) → p n ≡ false → (ns : List ℕ) → is_one_of (filter p ns) n ≡ false
+-- a number that a test leaves out is none of those that it keeps
+pub none_of : (p : ℕ → Bool) (n : ℕ) → p n ≡ false → (ns : List ℕ) → is_one_of (filter p ns) n ≡ false
 none_of p n h [] = refl
 none_of p n h (m ∷ ms) = elim (cases_Bool (p m)) [
   | inl e ↦ elim (eqb_tells n m) [

@@ -1,9 +1,8 @@
 -- An interface that is freed, and what stays of its handle.
 use Rattle.std.proofs.Common.{◌≡◌, ℕ, ◌+◌, ◌≤◌, ◌&&◌, ◌++◌, append-nil, Bool, not, true, false, List, [], ◌∷◌, Option, Some, None, is_some, Result, Ok, Err, IfOk, OnOk, OnErr, Vec, inl, inr, refl, sym, ap, subst, ◌∙◌, arith}
-use Rattle.std.specs.List.{filter, list_any, list_all}
+use Rattle.std.specs.List.{list_any, list_all}
 use Rattle.std.specs.Option.{option_map}
 use Rattle.std.proofs.lemmas.Bool.{cases_Bool, and_parts}
-use Rattle.std.proofs.lemmas.Bool.Decides.{eqb_tells}
 use Rattle.page_ranges.specs.declared.statuses.Status.{Status}
 use Rattle.guid_handles.specs.declared.records.Interface.{Interface}
 use Rattle.guid_handles.specs.HandleTables.{HandleTable, numbers, is_on, is_at, is_live, interface_at, value_at, carries}
@@ -22,6 +21,7 @@ use Rattle.driver_connect.specs.Starting.{Progress, Site, site}
 use Rattle.driver_connect.specs.Stopping.{PlannedStop, planned_stop, takes_item, can_be_stopped, is_made_by, is_one_of, is_unobstructed, made_by, may_stop, spares_opener, stop_set, without_handles, without_opens}
 use Rattle.driver_connect.specs.Connecting.{ConnectsBelow, first_progress, levels_below}
 use Rattle.driver_connect.specs.Readiness.{is_any_ready}
+use Rattle.driver_connect.proofs.Beside.{none_of}
 use Rattle.driver_connect.proofs.Counts.{connect_counts}
 use Rattle.driver_connect.proofs.Idle.{idle_connect}
 use Rattle.driver_connect.proofs.PlannedStops.{added_first, kept_left, opener_spared}
@@ -46,16 +46,6 @@ stays ds t opens set handle opener h =
       | inl e ↦ let k = rw e at c.0 in cc
       | inr e ↦ e
     ]
-
-none_of : (p : ℕ → Bool) (n : ℕ) → p n ≡ false → (ns : List ℕ) → is_one_of (filter p ns) n ≡ false
-none_of p n h [] = refl
-none_of p n h (m ∷ ms) = elim (cases_Bool (p m)) [
-  | inl e ↦ elim (eqb_tells n m) [
-    | inl t ↦ absurd (let k = rw t.1 at h in let f : true ≡ false = sym e ∙ k in cc)
-    | inr f ↦ rw e (rw f.0 (none_of p n h ms))
-  ]
-  | inr e ↦ rw e (none_of p n h ms)
-]
 
 -- what is on a handle that stays, stays
 interface_stays : (ns : List ℕ) (t : HandleTable) (n : ℕ) (guid : List ℕ) → is_one_of ns n ≡ false → interface_at (without_handles ns t) n guid ≡ interface_at t n guid
