@@ -670,8 +670,7 @@ static void try_drivers(void)
     HOLDS(try_call(managed_controller, reinstall) > 0);
 }
 
-/* Calls by which a handle goes that is a driver's own. For a ReinstallProtocolInterface the core
- * copies all handles then. */
+/* Calls by which a handle goes that is a driver's own. */
 static void try_made_driver(void)
 {
     struct call reinstall = {REINSTALL, 1, 1, 0, 0};
