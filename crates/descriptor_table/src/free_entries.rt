@@ -66,7 +66,7 @@ impl<'a, A: Allocator + Copy> FreeEntries<'a, A> {
         FreeEntries { leaves, leaf: 0 }
     }
 
-    /// The entries of the next leaf that has some; `None` after the last one.
+    /// The entries of the next leaf with a marked run; `None` where no entry is left.
     #[inline(always)]
     pub fn next_leaf(&mut self) -> Option<LeafUp<'a, A>>
         ensures stays { self.new.memory ≡ self.old.memory }
