@@ -12,8 +12,8 @@ ghost use Rattle.placement_certificate.specs.Search.{IsProperSearch};
 ghost use Rattle.placement_certificate.specs.Sides.{IsSavedAt};
 ghost use Rattle.placement_chooser.specs.Starts.{IsOfferIn, IsWantedFor, OffersBest};
 
-use descriptor_table::{FreeRun, RunCursor, Wanted};
-use page_ranges::{Descriptor, MemoryType, Run, is_specific_purpose};
+use descriptor_table::{FreeRun, RunCursor, Wanted, block_of};
+use page_ranges::{MemoryType, Run, is_specific_purpose};
 use placement_certificate::{EntrySearch, PricedStart, Request};
 use std::alloc::Allocator;
 
@@ -46,18 +46,6 @@ fn edge_saves(mtype: MemoryType, outside: Option<&Run>, inside: &Run) -> u64
     }
 }
 
-// A run as a block.
-fn block_of(run: &Run) -> Descriptor
-    ensures { result ≡ entry_of run.now }
-{
-    Descriptor {
-        mtype: run.mtype,
-        first: run.range.first,
-        pages: run.range.pages,
-        attributes: run.attributes,
-    }
-}
-
 /// The best start in an entry, with its price, whatever lies beside it.
 #[inline(never)]
 pub(crate) fn least_beside<B: Allocator + Copy>(
@@ -71,8 +59,8 @@ pub(crate) fn least_beside<B: Allocator + Copy>(
     ensures stays { search.new ≡ search.old }
     ensures least { IsTrueLeast free.entry.memory request.now free.entry.entry result }
 {
-    let below = free.below().map(block_of);
-    let above = free.above().map(block_of);
+    let below = free.below().map(|run| block_of(run));
+    let above = free.above().map(|run| block_of(run));
     let entry = block_of(free.run());
     search.least_beside(request, entries, &entry, below, above)
 }
