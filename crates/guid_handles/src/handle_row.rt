@@ -53,6 +53,7 @@ impl<A: Allocator + Copy> HandleRow<A> {
     }
 
     /// The same handle and keys, in memory of their own.
+    #[inline(always)]
     pub(crate) fn try_copy(&self) -> Result<HandleRow<A>, AllocError>
         ensures { IfOk result (λ copy. copy ≡ self.now) }
     {

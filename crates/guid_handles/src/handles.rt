@@ -11,6 +11,7 @@ ghost use Rattle.guid_handles.specs.TableSteps.{AreOthersLower, AreOthersOlder, 
 ghost use Rattle.guid_handles.specs.Stores.{AgreeOnKeys};
 
 use crate::groups::Groups;
+use crate::guids::is_same_guid;
 use crate::records::{Interface, LiveHandle, Maker, Record};
 use crate::room::make_slot;
 use crate::rows::Rows;
@@ -713,5 +714,5 @@ pub fn has_guid_twice(pairs: &[(Uuid, u64)]) -> bool
 fn has_guid(pairs: &[(Uuid, u64)], guid: Uuid) -> bool
     ensures { result ≡ list_any (λ p. same_guid guid p.0) pairs.now }
 {
-    pairs.iter().any(|pair| guid == pair.0)
+    pairs.iter().any(|pair| is_same_guid(&guid, &pair.0))
 }

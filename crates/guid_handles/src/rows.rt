@@ -121,10 +121,9 @@ fn copy_rows<A: Allocator + Copy>(
 ) -> Result<Vec<HandleRow<A>, A>, AllocError>
     ensures { IfOk result (λ copies. copies.items ≡ rows.now) }
 {
-    let mut copies = Vec::new(alloc);
-    copies.reserve(rows.len())?;
+    let mut copies = Vec::with_capacity(alloc, rows.len())?;
     for row in rows {
-        copies.push(row.try_copy()?)?;
+        copies.push_reserved(row.try_copy()?);
     }
     Ok(copies)
 }
