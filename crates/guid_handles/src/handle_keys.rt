@@ -1,5 +1,5 @@
 //! The keys of the interfaces on one handle.
-ghost use Rattle.std.specs.Prelude.{◌≡◌, ◌==◌, ◌++◌, [], ◌∷◌, not, IsTrue, IfOk, IfSome, OnOk, OnErr};
+ghost use Rattle.std.specs.Prelude.{◌≡◌, ◌≤◌, ◌==◌, ◌++◌, [], ◌∷◌, not, take, IsTrue, IfOk, OnOk, OnErr};
 ghost use Rattle.std.specs.List.{filter};
 ghost use Rattle.std.specs.Mem.{FitsInMemory};
 
@@ -67,41 +67,23 @@ impl<A: Allocator + Copy> HandleKeys<A> {
         })
     }
 
-    /// The same keys, if these are few, which takes no memory.
+    /// The first `count` keys of a buffer, which take no memory.
     #[inline(always)]
-    fn few_copied(&self) -> Option<HandleKeys<A>>
-        ensures { IfSome result (λ copy. copy ≡ self.now) }
+    pub(crate) fn few(&self, buffer: [u32; INLINE_KEYS], count: usize) -> HandleKeys<A>
+        requires { count ≤ 4 }
+        ensures { result ≡ take count buffer }
     {
-        let alloc = *self.keys.allocator();
-        let keys = match self.keys.as_slice() {
-            [] => SmallVec::new(alloc),
-            [a] => SmallVec::from_buf_and_len(alloc, [*a, 0, 0, 0], 1),
-            [a, b] => SmallVec::from_buf_and_len(alloc, [*a, *b, 0, 0], 2),
-            [a, b, c] => SmallVec::from_buf_and_len(alloc, [*a, *b, *c, 0], 3),
-            [a, b, c, d] => SmallVec::from_buf(alloc, [*a, *b, *c, *d]),
-            _ => return None,
-        };
-        Some(HandleKeys { keys })
+        let keys = SmallVec::from_buf_and_len(*self.keys.allocator(), buffer, count);
+        HandleKeys { keys }
     }
 
-    /// The same keys, however many.
+    /// The same keys, in memory of their own.
     #[inline(never)]
-    fn all_copied(&self) -> Result<HandleKeys<A>, AllocError>
+    pub(crate) fn try_copy(&self) -> Result<HandleKeys<A>, AllocError>
         ensures { IfOk result (λ copy. copy ≡ self.now) }
     {
         let keys = SmallVec::from_slice(*self.keys.allocator(), self.keys.as_slice())?;
         Ok(HandleKeys { keys })
-    }
-
-    /// The same keys, in memory of their own.
-    #[inline(always)]
-    pub(crate) fn try_copy(&self) -> Result<HandleKeys<A>, AllocError>
-        ensures { IfOk result (λ copy. copy ≡ self.now) }
-    {
-        match self.few_copied() {
-            Some(copy) => Ok(copy),
-            None => self.all_copied(),
-        }
     }
 
     /// The keys.

@@ -169,9 +169,10 @@ impl<A: Allocator + Copy> Handles<A> {
     pub fn try_copy(&self) -> Result<Handles<A>, AllocError>
         ensures { IfOk result (λ copy. copy ≡ self.now) }
     {
-        let rows = self.rows.try_copy()?;
-        let records = self.records.clone()?;
         let groups = self.groups.try_copy()?;
+        let records = self.records.clone()?;
+        // What goes first is copied last, while it is in the cache.
+        let rows = self.rows.try_copy()?;
         Ok(Handles {
             rows,
             records,

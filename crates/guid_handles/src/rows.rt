@@ -123,7 +123,7 @@ fn copy_rows<A: Allocator + Copy>(
 {
     let mut copies = Vec::with_capacity(alloc, rows.len())?;
     for row in rows {
-        copies.push_reserved(row.try_copy()?);
+        row.push_copy(&mut copies)?;
     }
     Ok(copies)
 }
@@ -204,8 +204,8 @@ impl<A: Allocator + Copy> Rows<A> {
     {
         let alloc = *self.numbers.allocator();
         let numbers = self.numbers.try_copy()?;
-        let rows = copy_rows(alloc, self.rows.as_slice())?;
         let made = self.made.try_copy()?;
+        let rows = copy_rows(alloc, self.rows.as_slice())?;
         Ok(Rows {
             rows,
             numbers,

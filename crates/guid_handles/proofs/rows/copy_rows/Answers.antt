@@ -6,8 +6,8 @@ use Rattle.guid_handles.proofs.rows.copy_rows.Goals as goal
 pub returns-in_err-copies : goal.returns-in_err-copies
 returns-in_err-copies g c = IfOk-from_err c.from_residual.result _ c.from_residual.ensures.0
 
-pub returns-in_err-try_copy : goal.returns-in_err-try_copy
-returns-in_err-try_copy g c = IfOk-from_err c.from_residual-in_err-try_copy.result _ c.from_residual-in_err-try_copy.ensures.0
+pub returns-in_err-push_copy : goal.returns-in_err-push_copy
+returns-in_err-push_copy g c = IfOk-from_err c.from_residual-in_err-push_copy.result _ c.from_residual-in_err-push_copy.ensures.0
 
 pub returns : goal.returns
 returns g c = rw (c.loop-row.invariant.0, take_whole _ _ c.loop-row-test.false) refl
