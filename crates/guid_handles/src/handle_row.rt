@@ -70,11 +70,13 @@ impl<A: Allocator + Copy> HandleRow<A> {
     }
 
     /// Appends the same handle and keys, in memory of their own, to rows that have room. Few keys are
-    /// copied one by one: a copy of a slice of any length takes three times as long.
+    /// copied one by one, which is faster than a slice of any length. On an `Err` the rows are as they
+    /// were.
     #[inline(always)]
     pub(crate) fn push_copy(&self, copies: &mut Vec<HandleRow<A>, A>) -> Result<(), AllocError>
         requires { vec_len copies.old < vec_capacity copies.old }
         ensures ok { OnOk result (copies.new.items ≡ copies.old.items ++ self.now ∷ []) }
+        ensures err { OnErr result (copies.new.items ≡ copies.old.items) }
         ensures capacity { vec_capacity copies.new ≡ vec_capacity copies.old }
     {
         let keys = &self.keys;

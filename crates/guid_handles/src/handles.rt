@@ -171,7 +171,7 @@ impl<A: Allocator + Copy> Handles<A> {
     {
         let groups = self.groups.try_copy()?;
         let records = self.records.clone()?;
-        // What goes first is copied last, while it is in the cache.
+        // A drop of the copy goes through its rows, which are still in the cache if copied last.
         let rows = self.rows.try_copy()?;
         Ok(Handles {
             rows,
