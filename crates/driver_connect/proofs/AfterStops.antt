@@ -1,5 +1,5 @@
 -- The drivers to be tried and the protocols on a handle, once its open items change and an interface has another value.
-use Rattle.std.proofs.Common.{◌≡◌, ◌⊎◌, ℕ, zero, suc, ◌+◌, ◌-◌, ◌<◌, ◌≤◌, ◌==◌, ◌&&◌, ◌||◌, nat_lt, nat_le, not, Bool, true, false, List, [], ◌∷◌, ◌++◌, map, length, take, Option, Some, None, is_some, inl, inr, refl, sym, ap, ◌∙◌, arith}
+use Rattle.std.proofs.Common.{◌≡◌, ◌⊎◌, ℕ, zero, suc, ◌+◌, ◌-◌, ◌<◌, ◌≤◌, ◌==◌, ◌&&◌, ◌||◌, nat_lt, nat_le, not, Bool, true, false, List, [], ◌∷◌, ◌++◌, map, length, take, drop, get_or, Option, Some, None, is_some, inl, inr, refl, sym, ap, ◌∙◌, arith, add-one, drop-cons}
 use Rattle.std.specs.List.{filter, find, insert, list_all, list_any, AllByRecursion}
 use Rattle.std.specs.Option.{option_map}
 use Rattle.std.proofs.lemmas.Bool.{cases_Bool, and_parts, le-leb, ne_eqb}
@@ -19,7 +19,7 @@ use Rattle.driver_connect.specs.declared.agents.Agent.{Agent}
 use Rattle.driver_connect.specs.declared.view.ProtocolView.{ProtocolView}
 use Rattle.driver_connect.specs.AfterStop.{agents_by_value, is_ready_after, shown_after, shown_left}
 use Rattle.driver_connect.specs.Drivers.{Meaning, ViewValue, driver_binding, is_free, plan_at, protocol_view, protocols_on, supports_at}
-use Rattle.driver_connect.specs.Starting.{agents_for, by_version, has_twice, is_child, other, others_among, with_agent}
+use Rattle.driver_connect.specs.Starting.{agents_for, by_version, has_twice, is_child, other, others, others_among, with_agent}
 use Rattle.driver_connect.specs.Stopping.{PlannedStop, is_one_of, without_handles, without_opens}
 use Rattle.driver_connect.specs.Readiness.{is_ready, protocol_after}
 use Rattle.driver_connect.proofs.Beside.{none_on, shown_beside}
@@ -71,12 +71,6 @@ none_passes p (x ∷ xs) h = elim (cases_Bool (p x)) [
   | inr e ↦ (e, none_passes p xs (rw e at h))
 ]
 
-all_inserted : {X : Type 0} (P : X → Type 0) (xs : List X) (i : ℕ) (y : X) → AllByRecursion P (insert xs i y) → P y × AllByRecursion P xs
-all_inserted P [] zero y h = (h.0, tt)
-all_inserted P [] (suc i) y h = (h.0, tt)
-all_inserted P (x ∷ xs) zero y h = (h.0, h.1)
-all_inserted P (x ∷ xs) (suc i) y h = let rest = all_inserted P xs i y h.1 in (rest.0, (h.0, rest.1))
-
 all_front : {X : Type 0} (P : X → Type 0) (xs ys : List X) → AllByRecursion P (xs ++ ys) → AllByRecursion P xs × AllByRecursion P ys
 all_front P [] ys h = (tt, h)
 all_front P (x ∷ xs) ys h = let rest = all_front P xs ys h.1 in ((h.0, rest.0), rest.1)
@@ -88,12 +82,6 @@ all_joined P (x ∷ xs) ys h k = (h.0, all_joined P xs ys h.1 k)
 versions_all : (P : Agent → Type 0) (agents more : List Agent) → AllByRecursion P agents → AllByRecursion P more → AllByRecursion P (by_version agents more)
 versions_all P agents [] h k = h
 versions_all P agents (a ∷ more) h k = versions_all P (with_agent agents a) more (all_insert P agents (place (λ b. nat_le a.version b.version) agents) a h k.0) k.1
-
-all_versions : (P : Agent → Type 0) (agents more : List Agent) → AllByRecursion P (by_version agents more) → AllByRecursion P agents × AllByRecursion P more
-all_versions P agents [] h = (h, tt)
-all_versions P agents (a ∷ more) h =
-    let rest = all_versions P (with_agent agents a) more h in
-    let first = all_inserted P agents (place (λ b. nat_le a.version b.version) agents) a rest.0 in (first.1, (first.0, rest.1))
 
 unbound : (q : Agent → Bool) (ds : List Meaning) (n : ℕ) (o : Option Interface) → is_some o ≡ false → AllByRecursion (λ a. q a ≡ false) (agent_by ds n (option_map (λ i. i.value) o))
 unbound q ds n None h = tt
@@ -133,13 +121,12 @@ fails_put q ds t n guid value m new h = elim (value_cases n guid value (t.last_s
 
 -- none of the drivers to be tried passes a test once handles are gone and an interface has another value
 none_after : (q : Agent → Bool) (ds : List Meaning) (ns : List ℕ) (t : HandleTable) (n : ℕ) (guid : List ℕ) (value : ℕ)
-    → list_any q (agents_for ds t [] ++ agents_by_value ds n guid value) ≡ false → list_any q (agents_for ds (with_value n guid value (without_handles ns t)) []) ≡ false
-none_after q ds ns t n guid value h =
+    → list_any q (others ds t []) ≡ false → list_any q (agents_by_value ds n guid value) ≡ false → list_any q (agents_for ds (with_value n guid value (without_handles ns t)) []) ≡ false
+none_after q ds ns t n guid value h k =
     let left = without_handles ns t in
     let new = with_value n guid value left in
-    let parts = all_front (λ a. q a ≡ false) (agents_for ds t []) (agents_by_value ds n guid value) (none_passes q (agents_for ds t [] ++ agents_by_value ds n guid value) h) in
-    let before : AllByRecursion (Fails q ds t) (numbers t) = all_fail q ds t (numbers t) (all_versions (λ a. q a ≡ false) [] (others_among ds t [] (filter (carries t driver_binding) (numbers t))) parts.0).1 in
-    let after : AllByRecursion (Fails q ds new) (numbers t) = all_map (Fails q ds t) (Fails q ds new) (λ m f. fails_put q ds left n guid value m parts.1 (fails_left q ds ns t m f)) (numbers t) before in
+    let before : AllByRecursion (Fails q ds t) (numbers t) = all_fail q ds t (numbers t) (none_passes q (others ds t []) h) in
+    let after : AllByRecursion (Fails q ds new) (numbers t) = all_map (Fails q ds t) (Fails q ds new) (λ m f. fails_put q ds left n guid value m (none_passes q (agents_by_value ds n guid value) k) (fails_left q ds ns t m f)) (numbers t) before in
     let those : AllByRecursion (Fails q ds new) (numbers new) = rw (filter_map_filter (λ (x : LiveHandle). x.number) (λ m. not (is_one_of ns m)) t.handles) (all_filter (Fails q ds new) (λ m. not (is_one_of ns m)) (numbers t) after) in
     any_none q (agents_for ds new []) (versions_all (λ a. q a ≡ false) [] (others_among ds new [] (filter (carries new driver_binding) (numbers new))) tt (fail_all q ds new (numbers new) those))
 
@@ -268,19 +255,43 @@ fewer_ready ds t u protocols n l a h =
       | inr f ↦ rw f.0 (last_fails (supports_at ds a.driver view) (not (length plan.opens == 0)) (not (has_twice plan.opens)) (list_all (is_free protocols) plan.opens) (list_all is_child plan.children))
     ]
 
--- Where none of the drivers to be tried now, nor the one that a new value makes a handle's, is ready on
--- the protocols and among the handles that are left, none is ready then.
-pub none_ready_after : (ds : List Meaning) (plan : PlannedStop) (t : HandleTable) (opens : List OpenRecord) (n : ℕ) (guid : List ℕ) (value : ℕ) (agents : List Agent) (shown : List ProtocolView) (count : ℕ) (may : Bool)
-    → IsHandleTable t → count ≡ length t.handles - length plan.handles → agents ≡ agents_for ds t [] ++ agents_by_value ds n guid value → shown ≡ shown_left plan t opens n guid value
-    → ((u : HandleTable) → count ≡ length u.handles → may ≡ list_any (is_ready ds u shown n) agents) → may ≡ false
+-- An answer for any table with a number of handles is one for a table with more.
+still_idle : (ds : List Meaning) (t : HandleTable) (shown : List ProtocolView) (n count : ℕ) (agents : List Agent) (ready : Bool) → count ≤ length t.handles
+    → ((u : HandleTable) → count ≡ length u.handles → ready ≡ list_any (is_ready ds u shown n) agents) → ready ≡ false → list_any (is_ready ds t shown n) agents ≡ false
+still_idle ds t shown n count agents ready fits asked idle =
+    let fewer : HandleTable = record t { handles = take count t.handles } in
+    let many : length fewer.handles ≡ count = length-take-le count t.handles fits in
+    let none : list_any (is_ready ds fewer shown n) agents ≡ false = sym (asked fewer (sym many)) ∙ idle in
+    any_none (is_ready ds t shown n) agents
+    (all_map (λ a. is_ready ds fewer shown n a ≡ false) (λ a. is_ready ds t shown n a ≡ false) (fewer_ready ds t fewer shown n (omega (arith, many, fits))) agents (none_passes (is_ready ds fewer shown n) agents none))
+
+-- Where none of all drivers, nor the one that a new value makes a handle's, is ready on the protocols and
+-- among the handles that are left, none is ready then.
+pub none_ready_after : (ds : List Meaning) (plan : PlannedStop) (t : HandleTable) (opens : List OpenRecord) (n : ℕ) (guid : List ℕ) (value : ℕ) (shown : List ProtocolView) (count : ℕ) (any by_value : Bool)
+    → IsHandleTable t → count ≡ length t.handles - length plan.handles → shown ≡ shown_left plan t opens n guid value
+    → ((u : HandleTable) → count ≡ length u.handles → any ≡ list_any (is_ready ds u shown n) (others ds t [])) → any ≡ false
+    → ((u : HandleTable) → count ≡ length u.handles → by_value ≡ list_any (is_ready ds u shown n) (agents_by_value ds n guid value)) → by_value ≡ false
     → is_ready_after ds plan t opens n guid value ≡ false
-none_ready_after ds plan t opens n guid value agents shown count may proper room tried seen asked idle =
+none_ready_after ds plan t opens n guid value shown count any by_value proper room seen asked idle asked_new idle_new =
     let new = with_value n guid value (without_handles plan.handles t) in
     let fits : count ≤ length new.handles = omega (arith, room, stay_least plan.handles t proper) in
-    let fewer : HandleTable = record new { handles = take count new.handles } in
-    let many : length fewer.handles ≡ count = length-take-le count new.handles fits in
-    let none : list_any (is_ready ds fewer shown n) agents ≡ false = sym (asked fewer (sym many)) ∙ idle in
-    let each : AllByRecursion (λ a. is_ready ds new shown n a ≡ false) agents = all_map (λ a. is_ready ds fewer shown n a ≡ false) (λ a. is_ready ds new shown n a ≡ false) (fewer_ready ds new fewer shown n (omega (arith, many, fits))) agents (none_passes (is_ready ds fewer shown n) agents none) in
-    let idle_now : list_any (is_ready ds new shown n) (agents_for ds t [] ++ agents_by_value ds n guid value) ≡ false = ap (list_any (is_ready ds new shown n)) (sym tried) ∙ any_none (is_ready ds new shown n) agents each in
     ap (λ (vs : List ProtocolView). list_any (is_ready ds new vs n) (agents_for ds new [])) (sym seen)
-    ∙ none_after (is_ready ds new shown n) ds plan.handles t n guid value idle_now
+    ∙ none_after (is_ready ds new shown n) ds plan.handles t n guid value (still_idle ds new shown n count (others ds t []) any fits asked idle) (still_idle ds new shown n count (agents_by_value ds n guid value) by_value fits asked_new idle_new)
+
+-- ---- one handle after the other
+
+any_front : {X : Type 0} (q : X → Bool) (xs ys : List X) → list_any q (xs ++ ys) ≡ (list_any q xs || list_any q ys)
+any_front q [] ys = refl
+any_front q (x ∷ xs) ys = elim (cases_Bool (q x)) [
+  | inl e ↦ rw e refl
+  | inr e ↦ rw e (any_front q xs ys)
+]
+
+-- what the rest of some driver handles says, by the next and those behind it
+pub next_other : (q : Agent → Bool) (ds : List Meaning) (t : HandleTable) (ns : List ℕ) (k : ℕ) (b : Bool) → k < length ns → b ≡ list_any q (other ds t [] (get_or ns k 0))
+    → list_any q (others_among ds t [] (drop k ns)) ≡ (b || list_any q (others_among ds t [] (drop (k + 1) ns)))
+next_other q ds t ns k b l e =
+    let first : drop k ns ≡ get_or ns k 0 ∷ drop (k + 1) ns = drop-cons ns k 0 l ∙ rw add-one refl in
+    ap (λ (ms : List ℕ). list_any q (others_among ds t [] ms)) first
+    ∙ any_front q (other ds t [] (get_or ns k 0)) (others_among ds t [] (drop (k + 1) ns))
+    ∙ ap (λ c. c || list_any q (others_among ds t [] (drop (k + 1) ns))) (sym e)

@@ -35,3 +35,4 @@ pub mod AfterStops
 pub mod Restamped
 pub mod OnePair
 pub mod Lives
+pub mod Slots

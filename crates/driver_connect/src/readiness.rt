@@ -1,21 +1,25 @@
 //! Whether a connect would start a driver, on the lists as they are or once a stop is carried out.
-ghost use Rattle.std.specs.Prelude.{◌≡◌, ◌≤◌, ◌||◌, false, map, IfOk, OnOk};
+ghost use Rattle.std.specs.Prelude.{◌≡◌, ◌≤◌, ◌||◌, [], false, map, IfOk};
+ghost use Rattle.std.specs.List.{list_any};
 ghost use Rattle.guid_handles.specs.HandleChanges.{max_handles};
+ghost use Rattle.open_agents.specs.Blocks.{items_near};
 ghost use Rattle.open_agents.specs.OpenItems.{is_exclusive, is_for_driver as is_driver};
 ghost use Rattle.open_agents.specs.OpenRule.{has_holder};
-ghost use Rattle.driver_connect.specs.AfterStop.{AreTriedWith, JoinsByValue, is_ready_after, leaves_holder, opens_left, shown_after, shown_left};
+ghost use Rattle.driver_connect.specs.AfterStop.{agents_by_value, holds_after, is_ready_after, opens_left, shown_after, shown_left};
+ghost use Rattle.driver_connect.specs.Drivers.{protocol_view, protocols_on};
 ghost use Rattle.driver_connect.specs.Readiness as spec;
 ghost use Rattle.driver_connect.specs.Readiness.{TellsAnyReady, TellsReady};
+ghost use Rattle.driver_connect.specs.Starting.{other, others};
 
-use crate::agents::{Agent, driver_binding, plan_at, supports_at, version_at};
+use crate::agents::{Agent, agent_of, driver_binding, plan_at, supports_at, version_at};
 use crate::candidates::agents_for;
 use crate::driver::Driver;
 use crate::progress::can_start;
 use crate::protocols::protocols_on;
 use crate::stopping::StopPlan;
 use crate::view::{ProtocolView, View};
-use guid_handles::Handles;
-use open_agents::{EXCLUSIVE, OpenItem, Opens, is_for_driver};
+use guid_handles::{Handles, Interface, is_same_guid};
+use open_agents::{EXCLUSIVE, Near, OpenRecord, Opens, is_for_driver, item_at};
 use std::alloc::{AllocError, Allocator};
 use uuid::Uuid;
 
@@ -92,15 +96,38 @@ fn holds(attributes: u32) -> bool
     is_for_driver(attributes) || attributes == EXCLUSIVE
 }
 
-/// Whether an item of an interface holds it once a stop is carried out.
-fn has_holder_after<A: Allocator + Copy>(
+/// Whether an item holds an interface once a stop is carried out, which leaves the item.
+fn holds_after<A: Allocator + Copy>(
     plan: &StopPlan<A>,
+    o: &OpenRecord,
     handle: u64,
-    items: &[OpenItem],
+    guid: Uuid,
 ) -> bool
-    ensures { result ≡ leaves_holder plan.now handle items.now }
+    ensures { result ≡ holds_after plan.now handle guid o.now }
 {
-    items.iter().any(|i| holds(i.attributes) && !plan.takes_item(handle, i.agent, i.controller))
+    o.handle == handle
+        && is_same_guid(&o.guid, &guid)
+        && holds(o.attributes)
+        && !plan.takes_item(handle, o.agent, o.controller)
+}
+
+/// Whether an item near an interface holds it once a stop is carried out.
+fn has_holder_near<A: Allocator + Copy>(
+    plan: &StopPlan<A>,
+    near: Near<'_>,
+    handle: u64,
+    guid: Uuid,
+) -> bool
+    ensures { result ≡ list_any (holds_after plan.now handle guid) (items_near near.entry) }
+{
+    for place in near.places {
+        if let Some(o) = item_at(near.slots, *place) {
+            if holds_after(plan, o, handle, guid) {
+                return true;
+            }
+        }
+    }
+    false
 }
 
 /// Whether an interface is still held once a stop is carried out.
@@ -109,14 +136,13 @@ fn is_held_after<A: Allocator + Copy>(
     opens: &Opens<A>,
     handle: u64,
     guid: Uuid,
-) -> Result<bool, AllocError>
-    ensures { IfOk result (λ b. b ≡ has_holder (opens_left plan.now opens.now) handle guid) }
+) -> bool
+    ensures { result ≡ has_holder (opens_left plan.now opens.now) handle guid }
 {
-    let items = opens.items(handle, guid)?;
-    Ok(has_holder_after(plan, handle, items.as_slice()))
+    has_holder_near(plan, opens.near(handle), handle, guid)
 }
 
-/// A protocol on a handle, as drivers are shown it once a stop is carried out and the interface of a
+/// An interface on a handle, as drivers are shown it once a stop is carried out and the interface of a
 /// GUID there has another value and no item.
 fn protocol_after<A: Allocator + Copy>(
     plan: &StopPlan<A>,
@@ -124,41 +150,45 @@ fn protocol_after<A: Allocator + Copy>(
     handle: u64,
     guid: Uuid,
     value: u64,
-    protocol: &ProtocolView,
-) -> Result<ProtocolView, AllocError>
-    ensures { IfOk result (λ v. v ≡ shown_after plan.now opens.now handle guid value protocol.now) }
+    i: &Interface,
+) -> ProtocolView
+    ensures { result
+        ≡ shown_after plan.now opens.now handle guid value (protocol_view opens.now i.now) }
 {
-    if protocol.guid == guid {
-        return Ok(ProtocolView {
-            guid: protocol.guid,
+    if is_same_guid(&i.guid, &guid) {
+        return ProtocolView {
+            guid: i.guid,
             value,
             held: false,
-        });
+        };
     }
-    Ok(ProtocolView {
-        guid: protocol.guid,
-        value: protocol.value,
-        held: is_held_after(plan, opens, handle, protocol.guid)?,
-    })
+    ProtocolView {
+        guid: i.guid,
+        value: i.value,
+        held: is_held_after(plan, opens, handle, i.guid),
+    }
 }
 
-/// Protocols on a handle, as drivers are shown them once a stop is carried out and the interface of a
+/// The protocols on a handle, as drivers are shown them once a stop is carried out and the interface of a
 /// GUID there has another value and no item.
 fn protocols_after<A: Allocator + Copy>(
     alloc: A,
     plan: &StopPlan<A>,
+    handles: &Handles<A>,
     opens: &Opens<A>,
     handle: u64,
     guid: Uuid,
     value: u64,
-    protocols: &[ProtocolView],
 ) -> Result<Vec<ProtocolView, A>, AllocError>
     ensures { IfOk result
-        (λ v. v.items ≡ map (shown_after plan.now opens.now handle guid value) protocols.now) }
+        (λ v. v.items ≡ map (shown_after plan.now opens.now handle guid value)
+        (protocols_on handles.now opens.now handle)) }
 {
     let mut shown = Vec::new(alloc);
-    for protocol in protocols {
-        shown.push(protocol_after(plan, opens, handle, guid, value, protocol)?)?;
+    for at in 0..handles.interface_count(handle) {
+        if let Some(i) = handles.nth_interface(handle, at) {
+            shown.push(protocol_after(plan, opens, handle, guid, value, &i))?;
+        }
     }
     Ok(shown)
 }
@@ -180,54 +210,73 @@ fn protocols_left<A: Allocator + Copy>(
     if plan.takes_handle(handle) {
         return Ok(Vec::new(alloc));
     }
-    let protocols = protocols_on(alloc, handles, opens, handle)?;
-    protocols_after(
-        alloc,
-        plan,
-        opens,
-        handle,
-        guid,
-        value,
-        protocols.as_slice(),
-    )
+    protocols_after(alloc, plan, handles, opens, handle, guid, value)
 }
 
-/// Adds the driver that an interface of a GUID makes a handle's by its value, if there is one.
-fn add_by_value<D: Driver, A: Allocator + Copy>(
-    agents: &mut Vec<Agent, A>,
+/// Whether a driver handle's driver is ready on a controller with some protocols, where there are a number of
+/// handles.
+fn is_driver_ready<D: Driver, A: Allocator + Copy>(
     drivers: &[D],
+    handles: &Handles<A>,
+    count: usize,
+    protocols: &[ProtocolView],
+    controller: u64,
+    driver: u64,
+) -> bool
+    requires { count ≤ max_handles }
+    ensures { TellsAnyReady D.meaning drivers.now count protocols.now controller
+        (other (map D.meaning drivers.now) handles.now [] driver) result }
+{
+    match agent_of(drivers, handles, driver) {
+        Some(agent) => is_ready(drivers, count, protocols, controller, &agent),
+        None => false,
+    }
+}
+
+/// Whether one of all drivers is ready on a controller with some protocols, where there are a number of handles.
+fn has_ready_driver<D: Driver, A: Allocator + Copy>(
+    drivers: &[D],
+    handles: &Handles<A>,
+    count: usize,
+    protocols: &[ProtocolView],
+    controller: u64,
+) -> bool
+    requires { count ≤ max_handles }
+    ensures { TellsAnyReady D.meaning drivers.now count protocols.now controller
+        (others (map D.meaning drivers.now) handles.now []) result }
+{
+    let holders = handles.by_protocol(driver_binding());
+    for n in holders {
+        if is_driver_ready(drivers, handles, count, protocols, controller, *n) {
+            return true;
+        }
+    }
+    false
+}
+
+/// Whether the driver that an interface of a GUID makes a handle's by its value is ready there, if there is
+/// one.
+fn is_new_driver_ready<D: Driver>(
+    drivers: &[D],
+    count: usize,
+    protocols: &[ProtocolView],
     handle: u64,
     guid: Uuid,
     value: u64,
-) -> Result<(), AllocError>
-    ensures { OnOk result
-        (JoinsByValue D.meaning drivers.now handle guid value agents.old agents.new) }
+) -> bool
+    requires { count ≤ max_handles }
+    ensures { TellsAnyReady D.meaning drivers.now count protocols.now handle
+        (agents_by_value (map D.meaning drivers.now) handle guid value) result }
 {
-    if driver_binding() == guid && value < drivers.len() as u64 {
-        agents.push(Agent {
+    if is_same_guid(&driver_binding(), &guid) && value < drivers.len() as u64 {
+        let agent = Agent {
             handle,
             driver: value,
             version: version_at(drivers, value),
-        })?;
+        };
+        return is_ready(drivers, count, protocols, handle, &agent);
     }
-    Ok(())
-}
-
-/// The drivers to be tried on a handle as things are, and the one that an interface of a GUID makes a
-/// handle's by its value.
-fn agents_with<D: Driver, A: Allocator + Copy>(
-    alloc: A,
-    drivers: &[D],
-    handles: &Handles<A>,
-    handle: u64,
-    guid: Uuid,
-    value: u64,
-) -> Result<Vec<Agent, A>, AllocError>
-    ensures { IfOk result (AreTriedWith D.meaning drivers.now handles.now handle guid value) }
-{
-    let mut agents = agents_for(alloc, drivers, handles, &[])?;
-    add_by_value(&mut agents, drivers, handle, guid, value)?;
-    Ok(agents)
+    false
 }
 
 /// Whether a connect of a handle may start a driver once a stop is carried out, the items on one of its
@@ -247,15 +296,12 @@ pub fn may_start_after<D: Driver, A: Allocator + Copy>(
         → is_ready_after (map D.meaning drivers.now)
         plan.now handles.now opens.now handle guid value ≡ false) }
 {
-    let agents = agents_with(alloc, drivers, handles, handle, guid, value)?;
-    let protocols = protocols_left(alloc, plan, handles, opens, handle, guid, value)?;
+    let left = protocols_left(alloc, plan, handles, opens, handle, guid, value)?;
+    let protocols = left.as_slice();
     // No more handles go than the plan lists.
     let staying = handles.all().len().saturating_sub(plan.handles().len());
-    Ok(has_ready(
-        drivers,
-        staying,
-        protocols.as_slice(),
-        handle,
-        agents.as_slice(),
-    ))
+    if has_ready_driver(drivers, handles, staying, protocols, handle) {
+        return Ok(true);
+    }
+    Ok(is_new_driver_ready(drivers, staying, protocols, handle, guid, value))
 }

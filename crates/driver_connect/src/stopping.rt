@@ -1,6 +1,7 @@
 //! Stopping drivers, with the handles that they made.
-ghost use Rattle.std.specs.Prelude.{◌≡◌, ◌==◌, ◌||◌, not, [], false, IfOk, OnErr, map};
+ghost use Rattle.std.specs.Prelude.{◌≡◌, ◌==◌, ◌||◌, not, [], List, false, IfOk, OnErr, map};
 ghost use Rattle.std.specs.List.{list_all, list_any, filter};
+ghost use Rattle.open_agents.specs.declared.items.Manager.{Manager};
 ghost use Rattle.open_agents.specs.Blocks.{items_at};
 ghost use Rattle.open_agents.specs.OpenItems.{without_items};
 ghost use Rattle.driver_connect.specs.Stopping as spec;
@@ -9,7 +10,7 @@ use crate::agents::{driver_binding, driver_of, may_stop_at};
 use crate::driver::Driver;
 use crate::made::made_by;
 use crate::pair_set::PairSet;
-use crate::pairs::{is_made_by, stop_set};
+use crate::pairs::{is_made_by, set_of, set_of_each, stop_set};
 use crate::protocols::protocols_on;
 use crate::view::View;
 use guid_handles::Handles;
@@ -242,13 +243,42 @@ impl<A: Allocator + Copy> StopPlan<A> {
     ) -> Result<StopPlan<A>, AllocError>
         ensures { IfOk result (λ plan. plan ≡ spec.planned_stop handles.now opens.now pairs.now) }
     {
-        if pairs.is_empty() {
+        let set = set_of_each(alloc, pairs)?;
+        StopPlan::of_set(alloc, handles, opens, set)
+    }
+
+    /// The same, where a single pair stays in its memory.
+    pub fn from_vec(
+        alloc: A,
+        handles: &Handles<A>,
+        opens: &Opens<A>,
+        pairs: Vec<Manager, A>,
+    ) -> Result<StopPlan<A>, AllocError>
+        ensures { IfOk result
+            (λ plan. plan ≡ spec.planned_stop handles.now opens.now pairs.items) }
+    {
+        let set = set_of(alloc, pairs)?;
+        StopPlan::of_set(alloc, handles, opens, set)
+    }
+
+    /// What the stop of the pairs of a set removes. Pairs that made no handle are all that it stops.
+    fn of_set(
+        alloc: A,
+        handles: &Handles<A>,
+        opens: &Opens<A>,
+        set: PairSet<A>,
+    ) -> Result<StopPlan<A>, AllocError>
+        ensures { IfOk result (λ plan. (pairs : List Manager) → set ≡ spec.with_pairs [] pairs
+            → plan ≡ spec.planned_stop handles.now opens.now pairs) }
+    {
+        let made = made_by(alloc, handles, set.as_slice())?;
+        if made.is_empty() {
             return Ok(StopPlan {
-                pairs: PairSet::new(alloc),
-                handles: Vec::new(alloc),
+                pairs: set,
+                handles: made,
             });
         }
-        let pairs = stop_set(alloc, handles, opens, pairs)?;
+        let pairs = stop_set(alloc, handles, opens, set)?;
         let handles = made_by(alloc, handles, pairs.as_slice())?;
         Ok(StopPlan { pairs, handles })
     }
