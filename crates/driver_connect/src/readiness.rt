@@ -25,6 +25,8 @@ use uuid::Uuid;
 
 /// Whether an agent's driver is supported on a controller with some protocols, and its plan can be
 /// carried out there, where there are a number of handles.
+// So its plan is on the stack no longer than the question takes.
+#[inline(never)]
 fn is_ready<D: Driver>(
     drivers: &[D],
     count: usize,
@@ -45,7 +47,6 @@ fn is_ready<D: Driver>(
 }
 
 /// Whether one of some agents is ready, where there are a number of handles.
-#[inline(never)]
 fn has_ready<D: Driver>(
     drivers: &[D],
     count: usize,
