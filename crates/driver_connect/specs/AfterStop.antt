@@ -1,14 +1,18 @@
 -- What drivers are shown of a handle once a stop is carried out, and whether one is ready then.
-use Rattle.std.specs.Prelude.{ℕ, ◌&&◌, not, nat_lt, Bool, cond, List, [], ◌∷◌, length}
-use Rattle.guid_handles.specs.HandleTables.{HandleTable, same_guid}
+use Rattle.std.specs.Prelude.{ℕ, ◌&&◌, not, Bool, List, []}
+use Rattle.guid_handles.specs.HandleTables.{HandleTable}
 use Rattle.guid_handles.specs.HandleChanges.{with_value}
 use Rattle.open_agents.specs.declared.items.OpenRecord.{OpenRecord}
 use Rattle.open_agents.specs.OpenItems.{is_holding, is_open_on, without_items}
-use Rattle.driver_connect.specs.declared.agents.Agent.{Agent}
 use Rattle.driver_connect.specs.declared.view.ProtocolView.{ProtocolView}
-use Rattle.driver_connect.specs.Drivers.{Meaning, driver_binding, protocols_on, version_at}
+use Rattle.driver_connect.specs.Drivers.{Meaning, protocols_on}
 use Rattle.driver_connect.specs.Readiness.{is_any_ready, protocol_after}
 use Rattle.driver_connect.specs.Stopping.{PlannedStop, takes_item, without_handles, without_opens}
+
+-- the handles once a stop is carried out and the interface of a GUID on a handle has another value
+abbrev pub handles_after : PlannedStop → HandleTable → ℕ → List ℕ → ℕ → HandleTable
+handles_after plan t handle guid value =
+    with_value handle guid value (without_handles plan.handles t)
 
 -- the open items that a stop leaves
 abbrev pub opens_left : PlannedStop → List OpenRecord → List OpenRecord
@@ -31,19 +35,13 @@ shown_after plan opens handle guid value v =
 abbrev pub shown_left : PlannedStop → HandleTable → List OpenRecord → ℕ → List ℕ → ℕ
     → List ProtocolView
 shown_left plan t opens handle guid value =
-    protocols_on (with_value handle guid value (without_handles plan.handles t))
+    protocols_on (handles_after plan t handle guid value)
     (without_items (is_open_on handle guid) (without_opens plan.handles plan.pairs opens)) handle
-
--- the driver that an interface of the driver binding's GUID makes a handle's by its value
-abbrev pub agents_by_value : List Meaning → ℕ → List ℕ → ℕ → List Agent
-agents_by_value ds handle guid value =
-    cond (same_guid driver_binding guid && nat_lt value (length ds))
-    (record { handle = handle; driver = value; version = version_at ds value } ∷ []) []
 
 -- One of all drivers is ready on a handle once a stop is carried out, the items on the interface of
 -- a GUID there are gone and it has another value.
 abbrev pub is_ready_after : List Meaning → PlannedStop → HandleTable → List OpenRecord → ℕ
     → List ℕ → ℕ → Bool
 is_ready_after ds plan t opens handle guid value =
-    is_any_ready ds (with_value handle guid value (without_handles plan.handles t))
+    is_any_ready ds (handles_after plan t handle guid value)
     (without_items (is_open_on handle guid) (without_opens plan.handles plan.pairs opens)) handle []

@@ -1,17 +1,17 @@
 //! Whether a connect would start a driver, on the lists as they are or once a stop is carried out.
-ghost use Rattle.std.specs.Prelude.{◌≡◌, ◌≤◌, ◌||◌, [], false, map, IfOk};
+ghost use Rattle.std.specs.Prelude.{◌≡◌, ◌≤◌, ◌==◌, ◌&&◌, ◌||◌, cond, length, map, IfOk};
 ghost use Rattle.std.specs.List.{list_any};
+ghost use Rattle.guid_handles.specs.HandleTables.{same_guid};
 ghost use Rattle.guid_handles.specs.HandleChanges.{max_handles};
 ghost use Rattle.open_agents.specs.Blocks.{items_near};
 ghost use Rattle.open_agents.specs.OpenItems.{is_exclusive, is_for_driver as is_driver};
 ghost use Rattle.open_agents.specs.OpenRule.{has_holder};
-ghost use Rattle.driver_connect.specs.AfterStop.{agents_by_value, holds_after, is_ready_after, opens_left, shown_after, shown_left};
-ghost use Rattle.driver_connect.specs.Drivers.{protocol_view, protocols_on};
+ghost use Rattle.driver_connect.specs.AfterStop.{handles_after, holds_after, is_ready_after, opens_left, shown_after, shown_left};
+ghost use Rattle.driver_connect.specs.Drivers.{driver_binding, driver_of, protocol_view, protocols_on};
 ghost use Rattle.driver_connect.specs.Readiness as spec;
 ghost use Rattle.driver_connect.specs.Readiness.{TellsAnyReady, TellsReady};
-ghost use Rattle.driver_connect.specs.Starting.{other, others};
 
-use crate::agents::{Agent, agent_of, driver_binding, plan_at, supports_at, version_at};
+use crate::agents::{Agent, driver_binding, plan_at, supports_at, version_at};
 use crate::candidates::agents_for;
 use crate::driver::Driver;
 use crate::progress::can_start;
@@ -214,76 +214,114 @@ fn protocols_left<A: Allocator + Copy>(
     protocols_after(alloc, plan, handles, opens, handle, guid, value)
 }
 
-/// Whether a driver handle's driver is ready on a controller with some protocols, where there are a number of
-/// handles.
-fn is_driver_ready<D: Driver, A: Allocator + Copy>(
-    drivers: &[D],
-    handles: &Handles<A>,
-    count: usize,
-    protocols: &[ProtocolView],
-    controller: u64,
-    driver: u64,
-) -> bool
-    requires { count ≤ max_handles }
-    ensures { TellsAnyReady D.meaning drivers.now count protocols.now controller
-        (other (map D.meaning drivers.now) handles.now [] driver) result }
+/// The value of a handle's driver binding, where the interface of a GUID on a handle has another value.
+fn binding_after(agent: u64, own: u64, handle: u64, guid: Uuid, value: u64) -> u64
+    ensures { result ≡ cond ((agent == handle) && same_guid driver_binding guid) value own }
 {
-    match agent_of(drivers, handles, driver) {
-        Some(agent) => is_ready(drivers, count, protocols, controller, &agent),
+    if agent == handle && is_same_guid(&driver_binding(), &guid) {
+        value
+    } else {
+        own
+    }
+}
+
+/// The place of the driver on a handle once a stop is carried out and an interface has another value, if
+/// the handle is a driver handle then.
+fn driver_after<D: Driver, A: Allocator + Copy>(
+    plan: &StopPlan<A>,
+    handles: &Handles<A>,
+    drivers: &[D],
+    handle: u64,
+    guid: Uuid,
+    value: u64,
+    agent: u64,
+) -> Option<u64>
+    ensures { result
+        ≡ driver_of (map D.meaning drivers.now)
+        (handles_after plan.now handles.now handle guid value) agent }
+{
+    if plan.takes_handle(agent) {
+        return None;
+    }
+    let own = handles.interface(agent, driver_binding())?;
+    let place = binding_after(agent, own, handle, guid, value);
+    if place < drivers.len() as u64 {
+        Some(place)
+    } else {
+        None
+    }
+}
+
+/// Whether a handle has a driver once a stop is carried out and an interface has another value, which is
+/// ready then on the handle of the interface. The protocols there are given, and how many handles stay.
+fn has_ready_driver<D: Driver, A: Allocator + Copy>(
+    plan: &StopPlan<A>,
+    handles: &Handles<A>,
+    drivers: &[D],
+    protocols: &[ProtocolView],
+    count: usize,
+    handle: u64,
+    guid: Uuid,
+    value: u64,
+    agent: u64,
+) -> bool
+    requires count { count
+        ≡ length (handles_after plan.now handles.now handle guid value).handles }
+    requires limit { count ≤ max_handles }
+    ensures { result
+        ≡ spec.has_ready_driver (map D.meaning drivers.now)
+        (handles_after plan.now handles.now handle guid value) protocols.now handle agent }
+{
+    match driver_after(plan, handles, drivers, handle, guid, value, agent) {
+        Some(driver) => is_ready(
+            drivers,
+            count,
+            protocols,
+            handle,
+            &Agent {
+                handle: agent,
+                driver,
+                version: version_at(drivers, driver),
+            },
+        ),
         None => false,
     }
 }
 
-/// Whether one of all drivers is ready on a controller with some protocols, where there are a number of handles.
-fn has_ready_driver<D: Driver, A: Allocator + Copy>(
-    drivers: &[D],
+/// Whether one of some handles has such a driver.
+fn has_any_ready_driver<D: Driver, A: Allocator + Copy>(
+    plan: &StopPlan<A>,
     handles: &Handles<A>,
-    count: usize,
+    drivers: &[D],
     protocols: &[ProtocolView],
-    controller: u64,
+    count: usize,
+    handle: u64,
+    guid: Uuid,
+    value: u64,
+    agents: &[u64],
 ) -> bool
-    requires { count ≤ max_handles }
-    ensures { TellsAnyReady D.meaning drivers.now count protocols.now controller
-        (others (map D.meaning drivers.now) handles.now []) result }
+    requires count { count
+        ≡ length (handles_after plan.now handles.now handle guid value).handles }
+    requires limit { count ≤ max_handles }
+    ensures { result
+        ≡ list_any
+        (spec.has_ready_driver (map D.meaning drivers.now)
+        (handles_after plan.now handles.now handle guid value) protocols.now handle)
+        agents.now }
 {
-    let holders = handles.by_protocol(driver_binding());
-    for n in holders {
-        if is_driver_ready(drivers, handles, count, protocols, controller, *n) {
+    for agent in agents {
+        if has_ready_driver(
+            plan, handles, drivers, protocols, count, handle, guid, value, *agent,
+        ) {
             return true;
         }
     }
     false
 }
 
-/// Whether the driver that an interface of a GUID makes a handle's by its value is ready there, if there is
-/// one.
-fn is_new_driver_ready<D: Driver>(
-    drivers: &[D],
-    count: usize,
-    protocols: &[ProtocolView],
-    handle: u64,
-    guid: Uuid,
-    value: u64,
-) -> bool
-    requires { count ≤ max_handles }
-    ensures { TellsAnyReady D.meaning drivers.now count protocols.now handle
-        (agents_by_value (map D.meaning drivers.now) handle guid value) result }
-{
-    if is_same_guid(&driver_binding(), &guid) && value < drivers.len() as u64 {
-        let agent = Agent {
-            handle,
-            driver: value,
-            version: version_at(drivers, value),
-        };
-        return is_ready(drivers, count, protocols, handle, &agent);
-    }
-    false
-}
-
-/// Whether a connect of a handle may start a driver once a stop is carried out, the items on one of its
-/// interfaces are gone and it has another value. The lists stay as they are. A driver whose own handle goes
-/// with the stop, or has another driver then, is asked too, so the answer may be yes where none is started.
-pub fn may_start_after<D: Driver, A: Allocator + Copy>(
+/// Whether a driver is ready on a handle once a stop is carried out, the items on one of its interfaces
+/// are gone and it has another value. The lists stay as they are.
+pub fn is_ready_after<D: Driver, A: Allocator + Copy>(
     alloc: A,
     plan: &StopPlan<A>,
     handles: &Handles<A>,
@@ -293,16 +331,21 @@ pub fn may_start_after<D: Driver, A: Allocator + Copy>(
     guid: Uuid,
     value: u64,
 ) -> Result<bool, AllocError>
-    ensures { IfOk result (λ may. may ≡ false
-        → is_ready_after (map D.meaning drivers.now)
-        plan.now handles.now opens.now handle guid value ≡ false) }
+    ensures { IfOk result
+        (λ b. b
+        ≡ is_ready_after (map D.meaning drivers.now)
+        plan.now handles.now opens.now handle guid value) }
 {
-    let left = protocols_left(alloc, plan, handles, opens, handle, guid, value)?;
-    let protocols = left.as_slice();
-    // No more handles go than the plan lists.
-    let staying = handles.all().len().saturating_sub(plan.handles().len());
-    if has_ready_driver(drivers, handles, staying, protocols, handle) {
-        return Ok(true);
-    }
-    Ok(is_new_driver_ready(drivers, staying, protocols, handle, guid, value))
+    let protocols = protocols_left(alloc, plan, handles, opens, handle, guid, value)?;
+    Ok(has_any_ready_driver(
+        plan,
+        handles,
+        drivers,
+        protocols.as_slice(),
+        plan.count_left(handles),
+        handle,
+        guid,
+        value,
+        handles.by_protocol(driver_binding()),
+    ))
 }

@@ -1,6 +1,8 @@
 //! Stopping drivers, with the handles that they made.
-ghost use Rattle.std.specs.Prelude.{◌≡◌, ◌==◌, ◌||◌, not, [], List, false, IfOk, OnErr, map};
+ghost use Rattle.std.specs.Prelude.{◌≡◌, ◌≤◌, ◌==◌, ◌||◌, not, [], List, false, length, IfOk, OnErr, map};
 ghost use Rattle.std.specs.List.{list_all, list_any, filter};
+ghost use Rattle.guid_handles.specs.HandleChanges.{max_handles};
+ghost use Rattle.guid_handles.specs.HandleTables.{is_live};
 ghost use Rattle.open_agents.specs.declared.items.Manager.{Manager};
 ghost use Rattle.open_agents.specs.Blocks.{items_at};
 ghost use Rattle.open_agents.specs.OpenItems.{without_items};
@@ -9,6 +11,7 @@ ghost use Rattle.driver_connect.specs.Stopping as spec;
 use crate::agents::{driver_binding, driver_of, may_stop_at};
 use crate::driver::Driver;
 use crate::made::made_by;
+use crate::numbers::is_among;
 use crate::pair_set::PairSet;
 use crate::pairs::{is_made_by, set_of, set_of_each, stop_set};
 use crate::protocols::protocols_on;
@@ -217,8 +220,15 @@ fn names_any(handles: &[u64], handle: u64, agent: u64, controller: u64) -> bool
         .any(|n| handle == *n || agent == *n || controller == *n)
 }
 
+/// How many of some numbers are those of live handles.
+fn count_live<A: Allocator + Copy>(handles: &Handles<A>, numbers: &[u64]) -> usize
+    ensures { result ≡ length (filter (is_live handles.now) numbers.now) }
+{
+    numbers.iter().filter(|n| handles.is_live(**n)).count()
+}
+
 /// What a stop removes, found on the lists as they are: the pairs that it stops, and the handles
-/// that these made.
+/// that these made, ascending.
 #[derive(Drop)]
 pub struct StopPlan<A: Allocator = Global> {
     pairs: PairSet<A>,
@@ -226,11 +236,15 @@ pub struct StopPlan<A: Allocator = Global> {
 }
 
 impl<A: Allocator> Model for StopPlan<A> {
+    ghost use Rattle.std.specs.Prelude.{◌<◌};
+    ghost use Rattle.guid_handles.specs.Sorting.{Ascending};
     ghost use Rattle.driver_connect.specs.Stopping.{PlannedStop};
 
     ghost Value = { PlannedStop };
 
     ghost view = { λ p. record { pairs = p.pairs; handles = p.handles.items } };
+
+    ghost invariant = { λ p. Ascending (λ a b. a < b) p.handles.items };
 }
 
 impl<A: Allocator + Copy> StopPlan<A> {
@@ -301,7 +315,15 @@ impl<A: Allocator + Copy> StopPlan<A> {
     pub(crate) fn takes_handle(&self, handle: u64) -> bool
         ensures { result ≡ spec.is_one_of self.now.handles handle }
     {
-        self.handles.iter().any(|n| handle == *n)
+        is_among(self.handles.as_slice(), handle)
+    }
+
+    /// How many handles the stop leaves.
+    pub(crate) fn count_left(&self, handles: &Handles<A>) -> usize
+        ensures count { result ≡ length (spec.without_handles self.now.handles handles.now).handles }
+        ensures limit { result ≤ max_handles }
+    {
+        handles.all().len() - count_live(handles, self.handles.as_slice())
     }
 
     /// Whether the stop removes the items of an agent and a controller on a handle.

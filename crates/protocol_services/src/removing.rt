@@ -14,7 +14,7 @@ ghost use Rattle.protocol_services.specs.RemovalSteps.{FreesAndReplaces, PlansTo
 
 use crate::protocols::Protocols;
 use crate::stops::drivers_near;
-use driver_connect::{Driver, StopPlan, may_start_after, replace_and_connect};
+use driver_connect::{Driver, StopPlan, is_ready_after, replace_and_connect};
 use guid_handles::{Handles, is_same_guid};
 use open_agents::{BY_CHILD_CONTROLLER, EXCLUSIVE, Near, OpenRecord, Opens, Usage, item_at};
 use page_ranges::Status;
@@ -292,7 +292,7 @@ impl<A: Allocator + Copy> Protocols<A> {
         ensures err { OnErr result (self.new ≡ self.old) }
         ensures raised { IsRaised self.old self.new }
     {
-        if may_start_after(
+        if is_ready_after(
             self.alloc,
             plan,
             &self.handles,

@@ -1,16 +1,10 @@
-use Rattle.std.proofs.Common.{map, sym, false, true, ◌∙◌}
-use Rattle.driver_connect.specs.Readiness.{is_ready}
-use Rattle.driver_connect.proofs.AfterStops.{next_other}
+use Rattle.std.proofs.Common.{map}
+use Rattle.driver_connect.specs.AfterStop.{handles_after}
+use Rattle.driver_connect.proofs.ReadyAfter.{ready_by}
 use Rattle.driver_connect.proofs.readiness.has_ready_driver.Goals as goal
 
-pub loop-n-preserved : goal.loop-n-preserved
-loop-n-preserved g c = λ t e.
-    let ds = map g.D.Driver.meaning c.args.drivers.now in
-    c.loop-n.invariant t e
-    ∙ next_other (is_ready ds t c.args.protocols.now c.args.controller) ds c.args.handles.now c.by_protocol-holders.result.now c.loop-n.n-index false c.loop-n-test.true (sym c.if-is_driver_ready.false ∙ c.is_driver_ready.ensures t e)
-
-pub returns-then-is_driver_ready : goal.returns-then-is_driver_ready
-returns-then-is_driver_ready g c = λ t e.
-    let ds = map g.D.Driver.meaning c.args.drivers.now in
-    sym (c.loop-n.invariant t e
-    ∙ next_other (is_ready ds t c.args.protocols.now c.args.controller) ds c.args.handles.now c.by_protocol-holders.result.now c.loop-n.n-index true c.loop-n-test.true (sym c.if-is_driver_ready.true ∙ c.is_driver_ready.ensures t e))
+pub returns-in-Some : goal.returns-in-Some
+returns-in-Some g c =
+    let t = handles_after c.args.plan.now c.args.handles.now c.args.handle c.args.guid c.args.value in
+    ready_by (map g.D.Driver.meaning c.args.drivers.now) t c.args.protocols.now c.args.handle c.args.agent c.in-Some.driver c.is_ready.result c.in-Some.ensures
+    (c.is_ready.ensures t c.requires.count)
