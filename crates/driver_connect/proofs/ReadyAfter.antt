@@ -91,18 +91,11 @@ none_at_value meaning drivers plan t n guid value m own place h e k l =
 
 -- ---- one of the drivers to be tried passes a test
 
-any_one : (q : Agent → Bool) (a : Agent) → list_any q (a ∷ []) ≡ q a
-any_one q a = elim (cases_Bool (q a)) [
-  | inl e ↦ rw e refl
-  | inr e ↦ rw e refl
-]
-
 -- the driver of a handle is ready where the handle has a ready one
 pub ready_by : (ds : List Meaning) (t : HandleTable) (protocols : List ProtocolView) (n m place : ℕ) (ready : Bool) → Some place ≡ driver_of ds t m
-    → ready ≡ is_ready ds t protocols n (record { handle = m; driver = place; version = version_at ds place }) → ready ≡ has_ready_driver ds t protocols n m
+    → ready ≡ list_any (is_ready ds t protocols n) (record { handle = m; driver = place; version = version_at ds place } ∷ []) → ready ≡ has_ready_driver ds t protocols n m
 ready_by ds t protocols n m place ready e h =
-    let a : Agent = record { handle = m; driver = place; version = version_at ds place } in
-    h ∙ sym (any_one (is_ready ds t protocols n) a) ∙ ap (λ (o : Option ℕ). list_any (is_ready ds t protocols n) (cons_option (option_map (λ (v : ℕ). record { handle = m; driver = v; version = version_at ds v }) o) [])) e
+    h ∙ ap (λ (o : Option ℕ). list_any (is_ready ds t protocols n) (cons_option (option_map (λ (v : ℕ). record { handle = m; driver = v; version = version_at ds v }) o) [])) e
 
 any_joined : {X : Type 0} (q : X → Bool) (xs ys : List X) → list_any q (xs ++ ys) ≡ (list_any q xs || list_any q ys)
 any_joined q [] ys = refl

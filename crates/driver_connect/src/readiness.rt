@@ -25,8 +25,6 @@ use uuid::Uuid;
 
 /// Whether an agent's driver is supported on a controller with some protocols, and its plan can be
 /// carried out there, where there are a number of handles.
-// So its plan is on the stack no longer than the question takes.
-#[inline(never)]
 fn is_ready<D: Driver>(
     drivers: &[D],
     count: usize,
@@ -46,7 +44,9 @@ fn is_ready<D: Driver>(
         && can_start(count, protocols, &plan_at(drivers, agent.driver, &view))
 }
 
-/// Whether one of some agents is ready, where there are a number of handles.
+/// Whether one of some agents is ready, where there are a number of handles. Each question goes through this
+/// function, so that the plan of a driver that is asked is not on the stack of what comes after it.
+#[inline(never)]
 fn has_ready<D: Driver>(
     drivers: &[D],
     count: usize,
@@ -273,16 +273,16 @@ fn has_ready_driver<D: Driver, A: Allocator + Copy>(
         (handles_after plan.now handles.now handle guid value) protocols.now handle agent }
 {
     match driver_after(plan, handles, drivers, handle, guid, value, agent) {
-        Some(driver) => is_ready(
+        Some(driver) => has_ready(
             drivers,
             count,
             protocols,
             handle,
-            &Agent {
+            &[Agent {
                 handle: agent,
                 driver,
                 version: version_at(drivers, driver),
-            },
+            }],
         ),
         None => false,
     }
