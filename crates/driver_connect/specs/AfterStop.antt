@@ -6,7 +6,7 @@ use Rattle.open_agents.specs.declared.items.OpenRecord.{OpenRecord}
 use Rattle.open_agents.specs.OpenItems.{is_holding, is_open_on, without_items}
 use Rattle.driver_connect.specs.declared.view.ProtocolView.{ProtocolView}
 use Rattle.driver_connect.specs.Drivers.{Meaning, protocols_on}
-use Rattle.driver_connect.specs.Readiness.{is_any_ready, protocol_after}
+use Rattle.driver_connect.specs.Readiness.{has_ready_driver, is_any_ready, protocol_after}
 use Rattle.driver_connect.specs.Stopping.{PlannedStop, takes_item, without_handles, without_opens}
 
 -- the handles once a stop is carried out and the interface of a GUID on a handle has another value
@@ -37,6 +37,13 @@ abbrev pub shown_left : PlannedStop → HandleTable → List OpenRecord → ℕ 
 shown_left plan t opens handle guid value =
     protocols_on (handles_after plan t handle guid value)
     (without_items (is_open_on handle guid) (without_opens plan.handles plan.pairs opens)) handle
+
+-- A handle has a driver once a stop is carried out and an interface has another value, which is ready
+-- then on the handle of the interface, with some protocols.
+abbrev pub has_ready_after : List Meaning → PlannedStop → HandleTable → ℕ → List ℕ → ℕ
+    → List ProtocolView → ℕ → Bool
+has_ready_after ds plan t handle guid value protocols agent =
+    has_ready_driver ds (handles_after plan t handle guid value) protocols handle agent
 
 -- One of all drivers is ready on a handle once a stop is carried out, the items on the interface of
 -- a GUID there are gone and it has another value.

@@ -6,7 +6,7 @@ ghost use Rattle.guid_handles.specs.HandleChanges.{max_handles};
 ghost use Rattle.open_agents.specs.Blocks.{items_near};
 ghost use Rattle.open_agents.specs.OpenItems.{is_exclusive, is_for_driver as is_driver};
 ghost use Rattle.open_agents.specs.OpenRule.{has_holder};
-ghost use Rattle.driver_connect.specs.AfterStop.{handles_after, holds_after, is_ready_after, opens_left, shown_after, shown_left};
+ghost use Rattle.driver_connect.specs.AfterStop.{handles_after, has_ready_after, holds_after, is_ready_after, opens_left, shown_after, shown_left};
 ghost use Rattle.driver_connect.specs.Drivers.{driver_binding, driver_of, protocol_view, protocols_on};
 ghost use Rattle.driver_connect.specs.Readiness as spec;
 ghost use Rattle.driver_connect.specs.Readiness.{TellsAnyReady, TellsReady};
@@ -269,8 +269,8 @@ fn has_ready_driver<D: Driver, A: Allocator + Copy>(
         ≡ length (handles_after plan.now handles.now handle guid value).handles }
     requires limit { count ≤ max_handles }
     ensures { result
-        ≡ spec.has_ready_driver (map D.meaning drivers.now)
-        (handles_after plan.now handles.now handle guid value) protocols.now handle agent }
+        ≡ has_ready_after (map D.meaning drivers.now)
+        plan.now handles.now handle guid value protocols.now agent }
 {
     match driver_after(plan, handles, drivers, handle, guid, value, agent) {
         Some(driver) => has_ready(
@@ -305,9 +305,8 @@ fn has_any_ready_driver<D: Driver, A: Allocator + Copy>(
     requires limit { count ≤ max_handles }
     ensures { result
         ≡ list_any
-        (spec.has_ready_driver (map D.meaning drivers.now)
-        (handles_after plan.now handles.now handle guid value) protocols.now handle)
-        agents.now }
+        (has_ready_after (map D.meaning drivers.now)
+        plan.now handles.now handle guid value protocols.now) agents.now }
 {
     for agent in agents {
         if has_ready_driver(

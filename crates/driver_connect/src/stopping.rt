@@ -320,7 +320,8 @@ impl<A: Allocator + Copy> StopPlan<A> {
 
     /// How many handles the stop leaves.
     pub(crate) fn count_left(&self, handles: &Handles<A>) -> usize
-        ensures count { result ≡ length (spec.without_handles self.now.handles handles.now).handles }
+        ensures count { result
+            ≡ length (spec.without_handles self.now.handles handles.now).handles }
         ensures limit { result ≤ max_handles }
     {
         handles.all().len() - count_live(handles, self.handles.as_slice())
