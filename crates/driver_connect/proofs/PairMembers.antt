@@ -1,12 +1,12 @@
 -- Pairs that are looked up by their controllers.
-use Rattle.std.proofs.Common.{◌≡◌, ℕ, ◌==◌, ◌||◌, Bool, true, false, List, [], ◌∷◌, ◌++◌, ◌<◌, length, inl, inr, refl, sym, ap, ◌∙◌, arith, length-append}
+use Rattle.std.proofs.Common.{◌≡◌, ℕ, ◌==◌, ◌||◌, Bool, true, false, List, [], ◌∷◌, ◌++◌, inl, inr, refl, sym, ap, ◌∙◌}
 use Rattle.std.specs.List.{list_any}
 use Rattle.std.proofs.lemmas.Bool.Decides.{eqb_tells}
 use Rattle.std.proofs.lemmas.Bool.{ne_eqb, eq-eqb}
 use Rattle.guid_handles.specs.Blocks.{Block, BlockGroup, ChangesBlock, block_at, with_last}
 use Rattle.open_agents.specs.declared.items.Manager.{Manager}
 use Rattle.driver_connect.specs.Stopping.{same_pair, has_pair}
-use Rattle.driver_connect.specs.PairSets.{AreIndexed, AreMembers, few}
+use Rattle.driver_connect.specs.PairSets.{AreMembers}
 use Rattle.driver_connect.proofs.Filters.{any_more}
 
 pub equal_round : (x y : ℕ) → (x == y) ≡ (y == x)
@@ -34,16 +34,3 @@ member_joins pairs p old new h c q =
           let other : (q.controller == p.controller) ≡ false = ne_eqb q.controller p.controller (λ e. f.1 (sym e)) in
           rw f.0 (h q ∙ sym (any_more (same_pair q) pairs p ∙ rw other (sym (or_false (has_pair pairs q)))))
     ]
-
--- ---- a few pairs
-
--- a few pairs need not be there
-pub few_joined : (pairs : List Manager) (p : Manager) (blocks : List BlockGroup) → length pairs < few → AreIndexed (pairs ++ p ∷ []) blocks
-few_joined pairs p blocks l = λ more. absurd (omega (arith, l, more, length-append pairs (p ∷ [])))
-
--- more are there
-pub indexed_joins : (pairs : List Manager) (p : Manager) (old new : List BlockGroup) → AreMembers pairs old → ChangesBlock p.controller (with_last p.agent) old new → AreIndexed (pairs ++ p ∷ []) new
-indexed_joins pairs p old new h c = λ more. member_joins pairs p old new h c
-
-pub still_members : (pairs : List Manager) (old new : List BlockGroup) → AreMembers pairs old → new ≡ old → AreIndexed pairs new
-still_members pairs old new h e = λ more. rw e h

@@ -12,7 +12,7 @@ ghost use Rattle.driver_connect.specs.Room.{HasRoom, Grows};
 use crate::table::is_free;
 use crate::view::{MAX_PAIRS, ProtocolView, StartPlan};
 use arrayvec::ArrayVec;
-use guid_handles::{Handles, MAX_HANDLES, Maker, has_guid_twice, is_same_guid};
+use guid_handles::{Handles, MAX_HANDLES, Maker, has_guid_twice};
 use open_agents::{BY_DRIVER, Opens};
 use protocol_notify::Notify;
 use std::alloc::{AllocError, Allocator};
@@ -22,7 +22,7 @@ use uuid::Uuid;
 fn has_guid(guids: &[Uuid], guid: Uuid) -> bool
     ensures { result ≡ spec.has_guid guids.now guid }
 {
-    guids.iter().any(|g| is_same_guid(&guid, g))
+    guids.iter().any(|g| guid == *g)
 }
 
 /// Whether a GUID occurs twice in a list.

@@ -5,7 +5,6 @@ ghost use Rattle.driver_connect.specs.Drivers.{is_free};
 use crate::driver::Driver;
 use crate::view::{MAX_CHILDREN, MAX_GUIDS, MAX_PAIRS, ProtocolView, StartPlan, View};
 use arrayvec::ArrayVec;
-use guid_handles::is_same_guid;
 use uuid::Uuid;
 
 /// A driver that supports each controller with the protocols that it needs, none of them held, and
@@ -23,9 +22,7 @@ pub struct TableDriver {
 pub(crate) fn is_free(protocols: &[ProtocolView], guid: Uuid) -> bool
     ensures { result ≡ is_free protocols.now guid }
 {
-    protocols
-        .iter()
-        .any(|p| is_same_guid(&p.guid, &guid) && !p.held)
+    protocols.iter().any(|p| p.guid == guid && !p.held)
 }
 
 /// The same interfaces.

@@ -11,7 +11,6 @@ ghost use Rattle.guid_handles.specs.TableSteps.{AreOthersLower, AreOthersOlder, 
 ghost use Rattle.guid_handles.specs.Stores.{AgreeOnKeys};
 
 use crate::groups::Groups;
-use crate::guids::is_same_guid;
 use crate::records::{Interface, LiveHandle, Maker, Record};
 use crate::room::make_slot;
 use crate::rows::Rows;
@@ -169,10 +168,9 @@ impl<A: Allocator + Copy> Handles<A> {
     pub fn try_copy(&self) -> Result<Handles<A>, AllocError>
         ensures { IfOk result (λ copy. copy ≡ self.now) }
     {
-        let groups = self.groups.try_copy()?;
-        let records = self.records.clone()?;
-        // A drop of the copy goes through its rows, which are still in the cache if copied last.
         let rows = self.rows.try_copy()?;
+        let records = self.records.clone()?;
+        let groups = self.groups.try_copy()?;
         Ok(Handles {
             rows,
             records,
@@ -715,5 +713,5 @@ pub fn has_guid_twice(pairs: &[(Uuid, u64)]) -> bool
 fn has_guid(pairs: &[(Uuid, u64)], guid: Uuid) -> bool
     ensures { result ≡ list_any (λ p. same_guid guid p.0) pairs.now }
 {
-    pairs.iter().any(|pair| is_same_guid(&guid, &pair.0))
+    pairs.iter().any(|pair| guid == pair.0)
 }

@@ -121,9 +121,10 @@ fn copy_rows<A: Allocator + Copy>(
 ) -> Result<Vec<HandleRow<A>, A>, AllocError>
     ensures { IfOk result (λ copies. copies.items ≡ rows.now) }
 {
-    let mut copies = Vec::with_capacity(alloc, rows.len())?;
+    let mut copies = Vec::new(alloc);
+    copies.reserve(rows.len())?;
     for row in rows {
-        row.push_copy(&mut copies)?;
+        copies.push(row.try_copy()?)?;
     }
     Ok(copies)
 }
@@ -204,8 +205,8 @@ impl<A: Allocator + Copy> Rows<A> {
     {
         let alloc = *self.numbers.allocator();
         let numbers = self.numbers.try_copy()?;
-        let made = self.made.try_copy()?;
         let rows = copy_rows(alloc, self.rows.as_slice())?;
+        let made = self.made.try_copy()?;
         Ok(Rows {
             rows,
             numbers,

@@ -1,11 +1,12 @@
 //! The search for the best start in one entry of a map after the other.
-ghost use Rattle.std.specs.Prelude.{◌≡◌, ◌↔◌, ◌+◌, ◌≤◌, Option, Contains, IsTrue};
+ghost use Rattle.std.specs.Prelude.{◌≡◌, ◌↔◌, ◌+◌, ◌≤◌, Option, length, Contains, IsTrue};
+ghost use Rattle.page_ranges.specs.MemoryTypes.{conventional, is_specific_purpose};
 ghost use Rattle.page_ranges.specs.Memory.{Page, page_at, page_below, IsProperMemory};
 ghost use Rattle.page_ranges.specs.MemoryMap.{memory_map};
 ghost use Rattle.page_ranges.specs.Cursors.{IsBlockAt};
-ghost use Rattle.placement_certificate.specs.Placement.{IsAvailable};
+ghost use Rattle.placement_certificate.specs.Placement.{IsProperRequest, IsAvailable};
 ghost use Rattle.placement_certificate.specs.Certificates.{IsTrueLeast};
-ghost use Rattle.placement_certificate.specs.Search.{IsAvailableBlock, IsOnPage, IsProperSearch, IsStop};
+ghost use Rattle.placement_certificate.specs.Search.{IsStop, IsOnPage, IsAvailableBlock};
 
 use crate::better::{PricedStart, better_of};
 use crate::certificates::Request;
@@ -142,7 +143,10 @@ impl<C: PageCursor + Drop> EntrySearch<C> {
         entry: &Descriptor,
         below: Option<Descriptor>,
     ) -> Option<PricedStart>
-        requires search { IsProperSearch self.old request.now entries entry.now }
+        requires proper { IsProperMemory self.old }
+        requires good { IsProperRequest request.now }
+        requires entries { entries ≡ length (memory_map self.old) }
+        requires entry { Contains (memory_map self.old) entry.now }
         requires available { IsAvailableBlock entry.now }
         requires below { IsOnPage below (page_below self.old entry.now.first) }
         ensures stays { self.new ≡ self.old }
@@ -183,7 +187,11 @@ impl<C: PageCursor + Drop> EntrySearch<C> {
         below: Option<Descriptor>,
         above: Option<Descriptor>,
     ) -> Option<PricedStart>
-        requires search { IsProperSearch self.old request.now entries entry.now }
+        requires proper { IsProperMemory self.old }
+        requires good { IsProperRequest request.now }
+        requires entries { entries ≡ length (memory_map self.old) }
+        requires entry { Contains (memory_map self.old) entry.now }
+        requires free { entry.now.mtype ≡ conventional }
         requires below { IsOnPage below (page_below self.old entry.now.first) }
         requires above { IsOnPage above (page_at self.old (entry.now.first + entry.now.pages)) }
         ensures stays { self.new ≡ self.old }
@@ -223,7 +231,11 @@ impl<C: PageCursor + Drop> EntrySearch<C> {
         entries: u64,
         entry: &Descriptor,
     ) -> Option<PricedStart>
-        requires { IsProperSearch self.old request.now entries entry.now }
+        requires proper { IsProperMemory self.old }
+        requires good { IsProperRequest request.now }
+        requires entries { entries ≡ length (memory_map self.old) }
+        requires entry { Contains (memory_map self.old) entry.now }
+        requires free { entry.now.mtype ≡ conventional }
         ensures stays { self.new ≡ self.old }
         ensures least { IsTrueLeast self.old request.now entry.now result }
     {

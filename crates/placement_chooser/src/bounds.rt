@@ -1,7 +1,10 @@
 //! What a certificate says of one conventional entry.
-ghost use Rattle.std.specs.Prelude.{◌≡◌, ℕ, ◌+◌, ◌^◌, ◌<◌, ◌≤◌, Option};
+ghost use Rattle.std.specs.Prelude.{◌≡◌, ℕ, ◌+◌, ◌^◌, ◌<◌, ◌≤◌, Option, length, Contains};
+ghost use Rattle.page_ranges.specs.MemoryTypes.{conventional};
+ghost use Rattle.page_ranges.specs.Memory.{IsProperMemory};
+ghost use Rattle.page_ranges.specs.MemoryMap.{memory_map};
 ghost use Rattle.placement_certificate.specs.Certificates.{IsTrueLeast};
-ghost use Rattle.placement_certificate.specs.Search.{IsProperSearch};
+ghost use Rattle.placement_certificate.specs.Placement.{IsProperRequest};
 ghost use Rattle.placement_chooser.specs.Starts.{IsOfferOf};
 
 use crate::offers::{Offer, least_beside, offer_alone};
@@ -32,7 +35,11 @@ pub(crate) fn least_in<B: Allocator + Copy>(
     free: FreeRun<'_, B>,
 ) -> Option<PricedStart>
     requires memory { search.old ≡ free.memory }
-    requires search { IsProperSearch free.memory request.now entries free.entry }
+    requires proper { IsProperMemory free.memory }
+    requires good { IsProperRequest request.now }
+    requires entries { entries ≡ length (memory_map free.memory) }
+    requires entry { Contains (memory_map free.memory) free.entry }
+    requires free { free.entry.mtype ≡ conventional }
     ensures stays { search.new ≡ search.old }
     ensures least { IsTrueLeast free.entry.memory request.now free.entry.entry result }
 {

@@ -1,6 +1,6 @@
 -- An interface that is freed, and what stays of its handle.
 use Rattle.std.proofs.Common.{◌≡◌, ℕ, ◌+◌, ◌≤◌, ◌&&◌, ◌++◌, append-nil, Bool, not, true, false, List, [], ◌∷◌, Option, Some, None, is_some, Result, Ok, Err, IfOk, OnOk, OnErr, Vec, inl, inr, refl, sym, ap, subst, ◌∙◌, arith}
-use Rattle.std.specs.List.{filter, list_any, list_all}
+use Rattle.std.specs.List.{list_any, list_all}
 use Rattle.std.specs.Option.{option_map}
 use Rattle.std.proofs.lemmas.Bool.{cases_Bool, and_parts}
 use Rattle.page_ranges.specs.declared.statuses.Status.{Status}
@@ -12,8 +12,8 @@ use Rattle.guid_handles.proofs.Indexed.{at_handle}
 use Rattle.open_agents.specs.declared.items.Decision.TheVariants.{StopFirst}
 use Rattle.open_agents.specs.declared.items.Manager.{Manager}
 use Rattle.open_agents.specs.declared.items.OpenRecord.{OpenRecord}
-use Rattle.open_agents.specs.Blocks.{is_near}
-use Rattle.open_agents.specs.OpenItems.{is_keeping, is_kept, is_open_on, names, with_item, without_items}
+use Rattle.open_agents.specs.declared.items.OpenItem.{OpenItem}
+use Rattle.open_agents.specs.OpenItems.{is_kept, is_open_on, items_on, keeps, names, with_item, without_items}
 use Rattle.protocol_notify.specs.Registrations.{events_for}
 use Rattle.driver_connect.specs.declared.stopping.Opener.{Opener}
 use Rattle.driver_connect.specs.Drivers.{Meaning}
@@ -24,12 +24,12 @@ use Rattle.driver_connect.specs.Readiness.{is_any_ready}
 use Rattle.driver_connect.proofs.Beside.{none_of}
 use Rattle.driver_connect.proofs.Counts.{connect_counts}
 use Rattle.driver_connect.proofs.Idle.{idle_connect}
-use Rattle.driver_connect.proofs.PlannedStops.{added_first, kept_near, opener_spared}
+use Rattle.driver_connect.proofs.PlannedStops.{added_first, kept_left, opener_spared}
 use Rattle.driver_connect.proofs.Ready.{ready_start}
 use Rattle.protocol_services.specs.Lists.{Lists, IsRaised}
 use Rattle.protocol_services.specs.Opening.{OpensAs, opened_value}
 use Rattle.protocol_services.specs.Stopping.{can_stop}
-use Rattle.protocol_services.specs.Removing.{Reinstalls, Replaces, can_be_freed, drivers_on, freed, is_value, once_freed, reconnected, removal_refusal, replaced, uninstalled, with_progress, without_dead}
+use Rattle.protocol_services.specs.Removing.{Reinstalls, Replaces, can_be_freed, drivers_among, drivers_on, freed, is_value, once_freed, reconnected, removal_refusal, replaced, uninstalled, with_progress, without_dead}
 use Rattle.protocol_services.proofs.OpenCounts.{CountUpTo, one_higher, opened_counts}
 use Rattle.protocol_services.proofs.Raised.{all_left, stays_raised}
 
@@ -89,14 +89,24 @@ opened_stopped_raised l new plan handle guid agent controller a added o e = rw e
 -- ---- an interface that is freed
 
 -- Where the drivers that have an interface open can be stopped, it can be freed unless an item that they leave keeps it.
-pub free_answer : (ds : List Meaning) (l : Lists) (handle : ℕ) (guid : List ℕ) (plan : PlannedStop) (near : List OpenRecord) (can kept : Bool)
-    → near ≡ filter (is_near handle) l.opens → plan ≡ planned_stop l.handles l.opens (drivers_on l.opens handle guid)
+pub free_answer : (ds : List Meaning) (l : Lists) (handle : ℕ) (guid : List ℕ) (plan : PlannedStop) (items : List OpenItem) (can kept : Bool)
+    → items ≡ items_on l.opens handle guid → plan ≡ planned_stop l.handles l.opens (drivers_among items)
     → can ≡ can_be_stopped ds l.handles l.opens plan.pairs handle None → can ≡ true
-    → kept ≡ list_any (λ o. is_keeping handle guid o && not (takes_item plan handle o.agent o.controller)) near → can_be_freed ds l handle guid ≡ not kept
-free_answer ds l handle guid plan near can kept i p asked sure k =
-    let left : kept ≡ is_kept (once_freed handle guid l).opens handle guid = rw i at k ∙ kept_near plan handle guid l.opens ∙ rw p refl in
-    let stops : can_stop ds l (drivers_on l.opens handle guid) handle None ≡ true = ap (λ (q : PlannedStop). can_be_stopped ds l.handles l.opens q.pairs handle None) (sym p) ∙ sym asked ∙ sure in
+    → kept ≡ list_any (λ i. keeps i.attributes && not (takes_item plan handle i.agent i.controller)) items → can_be_freed ds l handle guid ≡ not kept
+free_answer ds l handle guid plan items can kept i p asked sure k =
+    let whole : plan ≡ planned_stop l.handles l.opens (drivers_on l.opens handle guid) = rw i at p in
+    let left : kept ≡ is_kept (once_freed handle guid l).opens handle guid = rw i at k ∙ kept_left plan handle guid l.opens ∙ rw whole refl in
+    let stops : can_stop ds l (drivers_on l.opens handle guid) handle None ≡ true = ap (λ (q : PlannedStop). can_be_stopped ds l.handles l.opens q.pairs handle None) (sym whole) ∙ sym asked ∙ sure in
     rw stops (ap not (sym left))
+
+-- Where they can't be stopped, it can't be freed.
+pub not_freed : (ds : List Meaning) (l : Lists) (handle : ℕ) (guid : List ℕ) (plan : PlannedStop) (items : List OpenItem) (can : Bool)
+    → items ≡ items_on l.opens handle guid → plan ≡ planned_stop l.handles l.opens (drivers_among items)
+    → can ≡ can_be_stopped ds l.handles l.opens plan.pairs handle None → can ≡ false → can_be_freed ds l handle guid ≡ false
+not_freed ds l handle guid plan items can i p asked sure =
+    let whole : plan ≡ planned_stop l.handles l.opens (drivers_on l.opens handle guid) = rw i at p in
+    let stops : can_stop ds l (drivers_on l.opens handle guid) handle None ≡ false = ap (λ (q : PlannedStop). can_be_stopped ds l.handles l.opens q.pairs handle None) (sym whole) ∙ sym asked ∙ sure in
+    rw stops refl
 
 -- what the stop leaves, without the items on the interface
 pub free_leaves : (l : Lists) (handle : ℕ) (guid : List ℕ) (plan : PlannedStop) (t : HandleTable) (opens : List OpenRecord) → plan ≡ planned_stop l.handles l.opens (drivers_on l.opens handle guid)

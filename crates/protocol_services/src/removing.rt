@@ -3,20 +3,18 @@ ghost use Rattle.std.specs.Prelude.{◌≡◌, ◌<◌, ◌^◌, true, map, IfOk
 ghost use Rattle.std.specs.List.{list_any};
 ghost use Rattle.guid_handles.specs.HandleTables.{carries, value_at};
 ghost use Rattle.guid_handles.specs.HandleChanges.{IsHandleTable};
-ghost use Rattle.open_agents.specs.Blocks.{items_near};
 ghost use Rattle.open_agents.specs.OpenItems.{is_open_on, keeps, without_items};
 ghost use Rattle.driver_connect.specs.AfterStop.{opens_left};
 ghost use Rattle.driver_connect.specs.Stopping.{without_handles};
 ghost use Rattle.protocol_notify.specs.Registrations.{events_for};
 ghost use Rattle.protocol_services.specs.Lists.{HasRoom, IsRaised};
 ghost use Rattle.protocol_services.specs.Removing as spec;
-ghost use Rattle.protocol_services.specs.RemovalSteps.{FreesAndReplaces, PlansToFree, TakesOut, freed_and_replaced, keeps_after, stop_to_free, uninstalled_idle};
+ghost use Rattle.protocol_services.specs.RemovalSteps.{FreesAndReplaces, PlansToFree, TakesOut, freed_and_replaced, leaves_keeper, stop_among, stop_to_free, uninstalled_idle};
 
 use crate::protocols::Protocols;
-use crate::stops::drivers_near;
-use driver_connect::{Driver, StopPlan, is_ready_after, replace_and_connect};
-use guid_handles::{Handles, is_same_guid};
-use open_agents::{BY_CHILD_CONTROLLER, EXCLUSIVE, Near, OpenRecord, Opens, Usage, item_at};
+use driver_connect::{Driver, StopPlan, may_start_after, replace_and_connect};
+use guid_handles::Handles;
+use open_agents::{BY_CHILD_CONTROLLER, EXCLUSIVE, Manager, OpenItem, Opens, Usage, is_for_driver};
 use page_ranges::Status;
 use std::alloc::{AllocError, Allocator};
 use uuid::Uuid;
@@ -53,46 +51,42 @@ fn has_value<A: Allocator + Copy>(handles: &Handles<A>, handle: u64, guid: Uuid,
     }
 }
 
+/// The controller and the agent of an item of an interface.
+fn manager_in(item: &OpenItem) -> Manager
+    ensures { result ≡ spec.manager_in item.now }
+{
+    Manager {
+        controller: item.controller,
+        agent: item.agent,
+    }
+}
+
+/// The controllers and the agents of the items that are for a driver.
+fn drivers_among<A: Allocator>(alloc: A, items: &[OpenItem]) -> Result<Vec<Manager, A>, AllocError>
+    ensures { IfOk result (λ v. v.items ≡ spec.drivers_among items.now) }
+{
+    let mut pairs = Vec::new(alloc);
+    for item in items {
+        if is_for_driver(item.attributes) {
+            pairs.push(manager_in(item))?;
+        }
+    }
+    Ok(pairs)
+}
+
+/// Whether an item keeps its interface once a stop is carried out.
+fn is_kept_after<A: Allocator + Copy>(plan: &StopPlan<A>, handle: u64, items: &[OpenItem]) -> bool
+    ensures { result ≡ leaves_keeper plan.now handle items.now }
+{
+    items.iter().any(|i| keeps(i.attributes) && !plan.takes_item(handle, i.agent, i.controller))
+}
+
 /// Whether an open with some attributes keeps its interface: one for a child, or an exclusive one of no
 /// driver.
 fn keeps(attributes: u32) -> bool
     ensures { result ≡ keeps attributes }
 {
     attributes == BY_CHILD_CONTROLLER || attributes == EXCLUSIVE
-}
-
-/// Whether an item keeps an interface once a stop is carried out, which leaves the item.
-fn keeps_after<A: Allocator + Copy>(
-    plan: &StopPlan<A>,
-    o: &OpenRecord,
-    handle: u64,
-    guid: Uuid,
-) -> bool
-    ensures { result ≡ keeps_after plan.now handle guid o.now }
-{
-    o.handle == handle
-        && is_same_guid(&o.guid, &guid)
-        && keeps(o.attributes)
-        && !plan.takes_item(handle, o.agent, o.controller)
-}
-
-/// Whether an item near an interface keeps it once a stop is carried out.
-fn is_kept_after<A: Allocator + Copy>(
-    plan: &StopPlan<A>,
-    near: Near<'_>,
-    handle: u64,
-    guid: Uuid,
-) -> bool
-    ensures { result ≡ list_any (keeps_after plan.now handle guid) (items_near near.entry) }
-{
-    for place in near.places {
-        if let Some(o) = item_at(near.slots, *place) {
-            if keeps_after(plan, o, handle, guid) {
-                return true;
-            }
-        }
-    }
-    false
 }
 
 /// Removes the items that go with the stop that frees an interface, and those that are left on it. This
@@ -164,7 +158,10 @@ impl<A: Allocator + Copy> Protocols<A> {
     ) -> Result<StopPlan<A>, Status>
         ensures { PlansToFree (map D.meaning drivers.now) self.now handle guid result }
     {
-        let Ok(plan) = self.plan_of_drivers(handle, guid) else {
+        let Ok(items) = self.opens.items(handle, guid) else {
+            return Err(Status::OutOfResources);
+        };
+        let Ok(plan) = self.plan_among(items.as_slice()) else {
             return Err(Status::OutOfResources);
         };
         let Ok(can) = plan.can_be_carried_out(
@@ -180,18 +177,18 @@ impl<A: Allocator + Copy> Protocols<A> {
         if !can {
             return Err(Status::AccessDenied);
         }
-        if is_kept_after(&plan, self.opens.near(handle), handle, guid) {
+        if is_kept_after(&plan, handle, items.as_slice()) {
             return Err(Status::AccessDenied);
         }
         Ok(plan)
     }
 
-    /// What the stop of the drivers removes that have an interface open.
-    fn plan_of_drivers(&self, handle: u64, guid: Uuid) -> Result<StopPlan<A>, AllocError>
-        ensures { IfOk result (λ plan. plan ≡ stop_to_free self.now handle guid) }
+    /// What the stop of the drivers of some items removes.
+    pub(crate) fn plan_among(&self, items: &[OpenItem]) -> Result<StopPlan<A>, AllocError>
+        ensures { IfOk result (λ plan. plan ≡ stop_among self.now items.now) }
     {
-        let pairs = drivers_near(self.alloc, self.opens.near(handle), handle, guid)?;
-        StopPlan::from_vec(self.alloc, &self.handles, &self.opens, pairs)
+        let pairs = drivers_among(self.alloc, items)?;
+        StopPlan::new(self.alloc, &self.handles, &self.opens, pairs.as_slice())
     }
 
     /// UninstallProtocolInterface: uninstalls the interface of a GUID with a value; a handle goes with its last
@@ -292,7 +289,7 @@ impl<A: Allocator + Copy> Protocols<A> {
         ensures err { OnErr result (self.new ≡ self.old) }
         ensures raised { IsRaised self.old self.new }
     {
-        if is_ready_after(
+        if may_start_after(
             self.alloc,
             plan,
             &self.handles,

@@ -31,14 +31,10 @@ impl<A: Allocator + Copy> Protocols<A> {
         if pairs.len() > MAX_INSTALLED {
             return Err(Status::InvalidParameter);
         }
-        // Of two with one GUID the second is not there any more at its turn.
-        if has_guid_twice(pairs) {
-            return Err(Status::InvalidParameter);
-        }
         if let [pair] = pairs {
             return self.uninstall_one(drivers, handle, pair);
         }
-        if self.is_each_free_to_go(handle, pairs) {
+        if self.are_free_to_go(handle, pairs) {
             self.take_each_out(handle, pairs);
             return Ok(());
         }
@@ -62,8 +58,18 @@ impl<A: Allocator + Copy> Protocols<A> {
         }
     }
 
-    /// Whether each of some interfaces can be uninstalled without a stop: it is there with its value, open by no
-    /// driver and kept by no item.
+    /// Whether interfaces can be uninstalled without a stop: none is named twice, and each is there with its value,
+    /// open by no driver and kept by no item.
+    fn are_free_to_go(&self, handle: u64, pairs: &[(Uuid, u64)]) -> bool
+        ensures { result ≡ spec.are_free_to_go self.now handle pairs.now }
+    {
+        if has_guid_twice(pairs) {
+            return false;
+        }
+        self.is_each_free_to_go(handle, pairs)
+    }
+
+    /// Whether each of some interfaces can be uninstalled without a stop.
     fn is_each_free_to_go(&self, handle: u64, pairs: &[(Uuid, u64)]) -> bool
         ensures { result ≡ list_all (spec.is_free_to_go self.now handle) pairs.now }
     {
@@ -81,7 +87,7 @@ impl<A: Allocator + Copy> Protocols<A> {
         !usage.is_driven && !usage.is_kept
     }
 
-    /// Uninstalls interfaces that are free to go, of different GUIDs. This takes no memory.
+    /// Uninstalls interfaces that are free to go. This takes no memory.
     fn take_each_out(&mut self, handle: u64, pairs: &[(Uuid, u64)])
         requires { spec.are_free_to_go self.old handle pairs.now ≡ true }
         ensures { spec.AllGo self.old handle pairs.now self.new }
