@@ -2,7 +2,6 @@
 use Rattle.std.proofs.Common.{◌≡◌, ◌≢◌, ℕ, zero, suc, ◌+◌, ◌-◌, ◌*◌, ◌^◌, ◌<◌, ◌≤◌, Bool, true, false, cond, true≢false, eqb, List, [], ◌∷◌, ◌++◌, length, get_or, take, drop, Option, Some, None, inl, inr, refl, sym, ap, subst, ◌∙◌, append_assoc, append-nil, arith}
 use Rattle.std.specs.Prelude.{slice_get}
 use Rattle.std.specs.List.{AllByRecursion}
-use Rattle.std.specs.Int.{bit_at}
 use Rattle.std.proofs.lemmas.Bool.{cases_lt, eqb-true, eq-eqb, ne_eqb}
 use Rattle.std.proofs.lemmas.List.{take_more, take_all, get_or_past, drop_more}
 use Rattle.std.proofs.lemmas.Option.{get_or_from_slice_get, slice_get_within, slice_get_past}
@@ -18,7 +17,7 @@ use Rattle.descriptor_table.specs.declared.wanted.Wanted.{Wanted}
 use Rattle.descriptor_table.specs.Leaves.{IsPlace, first_page, leaf_at, run_before, runs_in, AreLeaves}
 use Rattle.descriptor_table.specs.declared.groups.Group.{Group}
 use Rattle.descriptor_table.specs.Summaries.{AreGroups, BeginsFree, IsFreeRun, IsLeafOfNoUse, may_hold}
-use Rattle.descriptor_table.specs.LeafSummaries.{MarksFree}
+use Rattle.descriptor_table.specs.LeafSummaries.{MarksFree, NoneMarked}
 use Rattle.descriptor_table.specs.LeafWalks.{IsAboveRun, IsBelowRun, run_above, run_below}
 use Rattle.descriptor_table.specs.Tables.{entry_of, IsBlockBelow}
 use Rattle.descriptor_table.specs.Wanting.{AreOfNoUse, IsOfNoUse, entries_of, is_of, most_gain}
@@ -56,7 +55,7 @@ some_run (r ∷ rs) zero h = (r, refl)
 some_run (r ∷ rs) (suc i) h = some_run rs i (omega arith)
 
 -- no run without a mark is an entry
-pub none_marked : (marks : ℕ) (rs : List Run) → MarksFree marks rs → (d i count : ℕ) → i + d ≡ count → count ≤ length rs → ((j : ℕ) → i ≤ j → j < count → bit_at marks j ≡ 0) → entries_of (take count rs) ≡ entries_of (take i rs)
+pub none_marked : (marks : ℕ) (rs : List Run) → MarksFree marks rs → (d i count : ℕ) → i + d ≡ count → count ≤ length rs → NoneMarked marks i count → entries_of (take count rs) ≡ entries_of (take i rs)
 none_marked marks rs m zero i count e h none = let same : count ≡ i = omega (arith, e) in ap (λ k. entries_of (take k rs)) same
 none_marked marks rs m (suc d) i count e h none =
     let k : i < length rs = omega (arith, e, h) in
@@ -65,9 +64,9 @@ none_marked marks rs m (suc d) i count e h none =
     ∙ taken_other rs i s.0 k (sym (get_or_from_slice_get rs i s.0 s.0 s.1)) (λ free. none_free marks rs i s.0 m s.1 free (none i (omega arith) (omega (arith, e))))
 
 -- the last run before an index whose mark is set, if it is free, and if it is not
-module _ (marks : ℕ) (rs : List Run) (m : MarksFree marks rs) (i count : ℕ) (r : Run) (h : i < count) (bound : count ≤ length rs) (at : r ≡ get_or rs i r) (none : (j : ℕ) → i < j → j < count → bit_at marks j ≡ 0) where
+module _ (marks : ℕ) (rs : List Run) (m : MarksFree marks rs) (i count : ℕ) (r : Run) (h : i < count) (bound : count ≤ length rs) (at : r ≡ get_or rs i r) (none : NoneMarked marks (i + 1) count) where
   down_to : entries_of (take count rs) ≡ entries_of (take (i + 1) rs)
-  down_to = none_marked marks rs m (count - (i + 1)) (i + 1) count (omega (arith, h)) bound (λ j low high. none j (omega (arith, low)) high)
+  down_to = none_marked marks rs m (count - (i + 1)) (i + 1) count (omega (arith, h)) bound none
 
   pub last_free : r.mtype ≡ conventional → entries_of (take count rs) ≡ entries_of (take i rs) ++ entry_of r ∷ []
   last_free free = down_to ∙ taken_free rs i r (omega (arith, h, bound)) at free

@@ -9,7 +9,7 @@ use Rattle.std.proofs.lemmas.Nat.Bits.{bit_at_or, bit_at_and, bit_at-lt, bit_at-
 use Rattle.page_ranges.specs.declared.ranges.Run.{Run}
 use Rattle.page_ranges.specs.MemoryTypes.{conventional}
 use Rattle.descriptor_table.specs.Summaries.{IsFreeRun}
-use Rattle.descriptor_table.specs.LeafSummaries.{MarksFree}
+use Rattle.descriptor_table.specs.LeafSummaries.{MarksFree, NoneMarked}
 use Rattle.descriptor_table.proofs.FreeBounds.{same_run}
 use Rattle.descriptor_table.proofs.LaterEntries.{get_dropped}
 use Rattle.descriptor_table.proofs.LeafSizes.{get_left, get_right}
@@ -101,8 +101,8 @@ module _ (marks below end : ℕ) (ones : (i : ℕ) → i < end → bit_at below 
   unmarked j l e = omega (arith, e, bit_at_and marks below j, ones j l, bit_at-lt marks j)
 
   -- no bit left is no mark
-  pub no_mark : bit_and marks below ≡ 0 → (j : ℕ) → j < end → bit_at marks j ≡ 0
-  no_mark e j l = unmarked j l (ap (λ x. bit_at x j) e ∙ bit_at-zero j)
+  pub no_mark : bit_and marks below ≡ 0 → NoneMarked marks 0 end
+  no_mark e j m l = unmarked j l (ap (λ x. bit_at x j) e ∙ bit_at-zero j)
 
   module _ (above : (i : ℕ) → end ≤ i → bit_at below i ≡ 0) (fits : below < 2 ^ 64) (some : bit_and marks below ≢ 0) where
     -- the place of the highest bit left
@@ -117,7 +117,7 @@ module _ (marks below end : ℕ) (ones : (i : ℕ) → i < end → bit_at below 
     ]
 
     -- and above it is no mark
-    pub none_behind : (j : ℕ) → 63 - leading_zeros w64 (bit_and marks below) < j → j < end → bit_at marks j ≡ 0
+    pub none_behind : NoneMarked marks (63 - leading_zeros w64 (bit_and marks below) + 1) end
     none_behind j m l = unmarked j l (bit_at_above (bit_and marks below) (suc top.0) j top.3 (omega (arith, top.1, m)))
 
 -- ---- the first mark from an index on
@@ -132,7 +132,7 @@ module _ (marks from : ℕ) where
   no_mark_from none j low = left_bit j low ∙ ap (λ x. bit_at x (j - from)) none ∙ bit_at-zero (j - from)
 
   -- below the lowest bit left is no mark
-  pub none_below : marks < 2 ^ 64 → marks / 2 ^ from ≢ 0 → (j : ℕ) → from ≤ j → j < from + trailing_zeros w64 (marks / 2 ^ from) → bit_at marks j ≡ 0
+  pub none_below : marks < 2 ^ 64 → marks / 2 ^ from ≢ 0 → NoneMarked marks from (from + trailing_zeros w64 (marks / 2 ^ from))
   none_below fits some j low below = left_bit j low ∙ (bit_at-trailing_zeros w64 (marks / 2 ^ from) (omega (arith, some)) (omega (arith, fits, shr_le marks from))).2 (j - from) (omega (arith, low, below))
 
 -- a run that is not marked is not free

@@ -8,9 +8,9 @@ use Rattle.std.proofs.lemmas.Option.{get_or_from_slice_get}
 use Rattle.page_ranges.specs.declared.ranges.Run.{Run}
 use Rattle.page_ranges.specs.MemoryTypes.{conventional}
 use Rattle.descriptor_table.specs.Leaves.{leaf_at, runs_in}
-use Rattle.descriptor_table.specs.LeafSummaries.{MarksFree}
+use Rattle.descriptor_table.specs.LeafSummaries.{MarksFree, NoneMarked}
 use Rattle.descriptor_table.specs.Tables.{entry_of}
-use Rattle.descriptor_table.specs.Wanting.{entries_from, entries_of}
+use Rattle.descriptor_table.specs.Wanting.{HaveSameEntries, entries_from, entries_of}
 use Rattle.descriptor_table.proofs.Downward.{some_run}
 use Rattle.descriptor_table.proofs.FreeMarks.{none_free}
 use Rattle.descriptor_table.proofs.NoUse.{entries-append}
@@ -28,7 +28,7 @@ dropped_other : (rs : List Run) (i : ℕ) (r : Run) → i < length rs → r ≡ 
 dropped_other rs i r h at other = dropped rs i r h at ∙ rw (ne_eqb r.mtype conventional other) refl
 
 -- no run without a mark is an entry
-pub unmarked_passed : (marks : ℕ) (rs : List Run) → MarksFree marks rs → (d i end : ℕ) → i + d ≡ end → end ≤ length rs → ((j : ℕ) → i ≤ j → j < end → bit_at marks j ≡ 0) → entries_of (drop i rs) ≡ entries_of (drop end rs)
+pub unmarked_passed : (marks : ℕ) (rs : List Run) → MarksFree marks rs → (d i end : ℕ) → i + d ≡ end → end ≤ length rs → NoneMarked marks i end → entries_of (drop i rs) ≡ entries_of (drop end rs)
 unmarked_passed marks rs m zero i end e h none = let same : i ≡ end = omega (arith, e) in ap (λ k. entries_of (drop k rs)) same
 unmarked_passed marks rs m (suc d) i end e h none =
     let k : i < length rs = omega (arith, e, h) in
@@ -37,11 +37,11 @@ unmarked_passed marks rs m (suc d) i end e h none =
     ∙ unmarked_passed marks rs m d (i + 1) end (omega (arith, e)) h (λ j low high. none j (omega (arith, low)) high)
 
 -- where no mark is left, no entry is
-pub none_left : (marks : ℕ) (rs : List Run) → MarksFree marks rs → (i : ℕ) → i ≤ length rs → ((j : ℕ) → i ≤ j → j < length rs → bit_at marks j ≡ 0) → entries_of (drop i rs) ≡ []
+pub none_left : (marks : ℕ) (rs : List Run) → MarksFree marks rs → (i : ℕ) → i ≤ length rs → NoneMarked marks i (length rs) → entries_of (drop i rs) ≡ []
 none_left marks rs m i h none = unmarked_passed marks rs m (length rs - i) i (length rs) (omega (arith, h)) (omega arith) none ∙ ap entries_of (drop_all (length rs) rs (omega arith))
 
 -- the first run from an index on whose mark is set, if it is free, and if it is not
-module _ (marks : ℕ) (rs : List Run) (m : MarksFree marks rs) (from i : ℕ) (r : Run) (low : from ≤ i) (h : i < length rs) (at : r ≡ get_or rs i r) (none : (j : ℕ) → from ≤ j → j < i → bit_at marks j ≡ 0) where
+module _ (marks : ℕ) (rs : List Run) (m : MarksFree marks rs) (from i : ℕ) (r : Run) (low : from ≤ i) (h : i < length rs) (at : r ≡ get_or rs i r) (none : NoneMarked marks from i) where
   up_to : entries_of (drop from rs) ≡ entries_of (drop i rs)
   up_to = unmarked_passed marks rs m (i - from) from i (omega (arith, low)) (omega (arith, h)) none
 
@@ -58,5 +58,5 @@ pub leaf_first : (ls : List (List Run)) (j : ℕ) → j < length ls → entries_
 leaf_first ls j h = ap (λ l. entries_of (runs_in l)) (drop_more ls j [] h) ∙ entries-append (leaf_at ls j) (runs_in (drop (j + 1) ls))
 
 -- a leaf without a mark has none
-pub leaf_passed : (ls : List (List Run)) (j marks : ℕ) → j < length ls → MarksFree marks (leaf_at ls j) → marks ≡ 0 → entries_from ls j ≡ entries_from ls (j + 1)
+pub leaf_passed : (ls : List (List Run)) (j marks : ℕ) → j < length ls → MarksFree marks (leaf_at ls j) → marks ≡ 0 → HaveSameEntries ls j (j + 1)
 leaf_passed ls j marks h m none = leaf_first ls j h ∙ ap (λ ds. ds ++ entries_from ls (j + 1)) (none_left marks (leaf_at ls j) m 0 (omega arith) (λ k low high. ap (λ x. bit_at x k) none ∙ bit_at-zero k))

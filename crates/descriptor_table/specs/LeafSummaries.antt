@@ -12,6 +12,10 @@ use Rattle.descriptor_table.specs.Summaries.{Allows, AllowsLeaf, AllowsRun, AreG
 abbrev pub MarksFree : ℕ → List Run → Type 0
 MarksFree marks rs = (i : ℕ) → IsFreeRun (slice_get rs i) → bit_at marks i ≡ 1
 
+-- no bit is set from one index on and below another
+abbrev pub NoneMarked : ℕ → ℕ → ℕ → Type 0
+NoneMarked marks low high = (j : ℕ) → low ≤ j → j < high → bit_at marks j ≡ 0
+
 -- Runs of which those between two indices gave way to others, no more than a leaf has room for: where old
 -- bits are set for the free ones of any runs before, new bits are for those after.
 abbrev pub StillMarks : ℕ → ℕ × ℕ → List Run → ℕ → Type 0

@@ -94,6 +94,10 @@ entries_of rs = map entry_of (filter (λ r. r.mtype == conventional) rs)
 abbrev pub entries_from : List (List Run) → ℕ → List Descriptor
 entries_from ls leaf = entries_of (runs_in (drop leaf ls))
 
+-- the leaves from one index on have the same entries as those from another on
+abbrev pub HaveSameEntries : List (List Run) → ℕ → ℕ → Type 0
+HaveSameEntries ls low high = entries_from ls low ≡ entries_from ls high
+
 -- no conventional run of the leaves between two indices is an entry of use
 abbrev pub AreOfNoUse : Wanted → List (List Run) → ℕ → ℕ → Type 0
 AreOfNoUse w ls low high =

@@ -15,9 +15,9 @@ use page_ranges::{Descriptor, Run};
 use std::alloc::{Allocator, Global};
 use std::marker::Model;
 
-// A run as a block, its owner left out.
+/// A run as a block, its owner left out.
 #[inline(always)]
-fn block_of(run: &Run) -> Descriptor
+pub fn block_of(run: &Run) -> Descriptor
     ensures { result ≡ entry_of run.now }
 {
     Descriptor {

@@ -4,7 +4,7 @@ ghost use Rattle.page_ranges.specs.Memory.{IsProperMemory};
 ghost use Rattle.page_ranges.specs.Runs.{pages_of, AreMaximalRuns};
 ghost use Rattle.descriptor_table.specs.Leaves.{runs_in, AreLeaves};
 ghost use Rattle.descriptor_table.specs.LeafWalks.{free_in};
-ghost use Rattle.descriptor_table.specs.Wanting.{entries_from, YieldsFirst, YieldsFirstLeaf};
+ghost use Rattle.descriptor_table.specs.Wanting.{entries_from, HaveSameEntries, YieldsFirst, YieldsFirstLeaf};
 
 use crate::free_marks::first_mark;
 use crate::free_runs::FreeRun;
@@ -17,7 +17,7 @@ use std::marker::Model;
 #[inline(always)]
 fn marked_leaf<A: Allocator + Copy>(leaves: &[Leaf<A>], from: usize) -> Option<usize>
     ensures bound { IfSome result (λ j. (from ≤ j) × (j < length leaves.now)) }
-    ensures some { IfSome result (λ j. entries_from leaves.now from ≡ entries_from leaves.now j) }
+    ensures some { IfSome result (λ j. HaveSameEntries leaves.now from j) }
     ensures none { IfNone result (entries_from leaves.now from ≡ []) }
 {
     for leaf in from..leaves.len() {
@@ -66,7 +66,7 @@ impl<'a, A: Allocator + Copy> FreeEntries<'a, A> {
         FreeEntries { leaves, leaf: 0 }
     }
 
-    /// The entries of the next leaf that has some; `None` after the last one.
+    /// The entries of the next leaf with a marked run; `None` where no entry is left.
     #[inline(always)]
     pub fn next_leaf(&mut self) -> Option<LeafUp<'a, A>>
         ensures stays { self.new.memory ≡ self.old.memory }

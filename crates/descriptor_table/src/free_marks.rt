@@ -1,7 +1,7 @@
 //! Which runs of a leaf are free, by a bit for each.
 ghost use Rattle.std.specs.Prelude.{◌≡◌, ◌+◌, ◌<◌, ◌≤◌, ℕ, length, IfSome, IfNone};
 ghost use Rattle.std.specs.Int.{bit_at};
-ghost use Rattle.descriptor_table.specs.LeafSummaries.{MarksFree, StillMarks};
+ghost use Rattle.descriptor_table.specs.LeafSummaries.{MarksFree, NoneMarked, StillMarks};
 
 use page_ranges::{MemoryType, Run};
 
@@ -46,8 +46,8 @@ pub(crate) fn marks_changed(marks: u64, low: usize, high: usize, parts: &[Run]) 
 pub(crate) fn last_mark(marks: u64, end: usize) -> Option<usize>
     requires { end < 64 }
     ensures some { IfSome result (λ i. i < end) }
-    ensures above { IfSome result (λ i. (j : ℕ) → i < j → j < end → bit_at marks j ≡ 0) }
-    ensures none { IfNone result ((j : ℕ) → j < end → bit_at marks j ≡ 0) }
+    ensures above { IfSome result (λ i. NoneMarked marks (i + 1) end) }
+    ensures none { IfNone result (NoneMarked marks 0 end) }
 {
     let left = marks & bits_below(end);
     if left == 0 {
@@ -61,8 +61,8 @@ pub(crate) fn last_mark(marks: u64, end: usize) -> Option<usize>
 pub(crate) fn first_mark(marks: u64, from: usize, end: usize) -> Option<usize>
     requires { from < 64 }
     ensures some { IfSome result (λ i. (from ≤ i) × (i < end)) }
-    ensures below { IfSome result (λ i. (j : ℕ) → from ≤ j → j < i → bit_at marks j ≡ 0) }
-    ensures none { IfNone result ((j : ℕ) → from ≤ j → j < end → bit_at marks j ≡ 0) }
+    ensures below { IfSome result (λ i. NoneMarked marks from i) }
+    ensures none { IfNone result (NoneMarked marks from end) }
 {
     let left = marks >> from;
     if left == 0 {

@@ -27,7 +27,7 @@ mod wanted;
 mod whole_runs;
 
 pub use cursors::RunCursor;
-pub use entries::MapEntries;
+pub use entries::{MapEntries, block_of};
 pub use entries_down::{EntriesDown, LeafDown};
 pub use free_entries::{FreeEntries, LeafUp};
 pub use free_runs::FreeRun;

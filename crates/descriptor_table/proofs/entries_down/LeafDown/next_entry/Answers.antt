@@ -29,4 +29,4 @@ pub returns-clause-next : goal.returns-clause-next
 returns-clause-next g c =
     let inv = c.loop-index.invariant in
     let count = c.loop-index.self-inside.count in
-    inv.entries ∙ none_marked c.loop-index.self-inside.marks c.loop-index.self-inside.runs.now inv.runs.3 count 0 count (omega arith) inv.runs.4 (λ j low high. c.in_default.ensures.none j high)
+    inv.entries ∙ none_marked c.loop-index.self-inside.marks c.loop-index.self-inside.runs.now inv.runs.3 count 0 count (omega arith) inv.runs.4 c.in_default.ensures.none
