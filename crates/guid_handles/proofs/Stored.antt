@@ -12,7 +12,7 @@ use Rattle.guid_handles.specs.declared.records.LiveHandle.{LiveHandle}
 use Rattle.guid_handles.specs.declared.records.Maker.{Maker}
 use Rattle.guid_handles.specs.declared.records.Record.{Record}
 use Rattle.guid_handles.specs.HandleTables.{HandleTable, numbers, same_guid, is_on, is_at, is_live, has_number, carries, holders_of}
-use Rattle.guid_handles.specs.HandleChanges.{IsHandleTable, max_handles, is_taken, has_guid_twice, stamped, restamped, with_interfaces, with_handle, without_handle}
+use Rattle.guid_handles.specs.HandleChanges.{IsHandleTable, max_in_table, is_taken, has_guid_twice, stamped, restamped, with_interfaces, with_handle, without_handle}
 use Rattle.guid_handles.specs.Sorting.{Ascending}
 use Rattle.guid_handles.specs.Indexes.{Row, Group, ChangesKeys, ChangesTurns, AreOn, AreAbsent, HaveSameTurns, lives, is_row_of, row_numbers, keys_of, keys_on, key_at, turns_of, with_turn, without_turn}
 use Rattle.guid_handles.specs.Slots.{at_key, at_keys, record_at, installed_until, with_stamp}
@@ -106,7 +106,7 @@ with_handle_on_live : (n : ℕ) (ns : List ℕ) (is : List Interface) → AreOn 
 with_handle_on_live n ns is a =
     all_map (λ i. list_any (λ m. nat_eq m i.handle) ns ≡ true) (λ i. list_any (λ m. nat_eq m i.handle) (ns ++ n ∷ []) ≡ true) (λ i h. any_push (λ m. nat_eq m i.handle) ns n h) is a
 
-table_with_handle : (t : HandleTable) (maker : Option Maker) → IsTable t → length t.handles < max_handles → IsTable (with_handle maker t)
+table_with_handle : (t : HandleTable) (maker : Option Maker) → IsTable t → length t.handles < max_in_table → IsTable (with_handle maker t)
 table_with_handle t maker s room =
     let e : numbers (with_handle maker t) ≡ numbers t ++ (t.last_number + 1) ∷ [] = map_append (λ (h : LiveHandle). h.number) t.handles (record { number = t.last_number + 1; maker = maker } ∷ []) in
     record {
@@ -575,7 +575,7 @@ module _ (rows : List Row) (slots : List (Option Record)) (groups : List Group) 
   live_row n l = sym (ap is_some (find_lives n rows) ∙ some_map (λ r. r.live) (find (is_row_of n) rows)) ∙ l
 
   -- a handle comes
-  pub stored_handle : (maker : Option Maker) → length (lives rows) < max_handles
+  pub stored_handle : (maker : Option Maker) → length (lives rows) < max_in_table
       → (table_of (rows ++ record { live = record { number = number + 1; maker = maker }; keys = [] } ∷ []) slots (number + 1) stamp ≡ with_handle maker (table_of rows slots number stamp))
       × IsStore (rows ++ record { live = record { number = number + 1; maker = maker }; keys = [] } ∷ []) slots groups (number + 1) stamp
   stored_handle maker room =

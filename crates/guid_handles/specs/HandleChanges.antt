@@ -13,6 +13,11 @@ use Rattle.guid_handles.specs.Indexes.{AreOn}
 abbrev pub max_handles : ℕ
 max_handles = 4096
 
+-- The most handles in a table. While drivers are started it also has those that go once this is
+-- done, at most as many as may be live.
+abbrev pub max_in_table : ℕ
+max_in_table = 8192
+
 -- the most interfaces that one call may install
 abbrev pub max_installed : ℕ
 max_installed = 16
@@ -22,7 +27,7 @@ max_installed = 16
 pub record IsHandleTable (t : HandleTable) : Type 0 where
   pub ascending : Ascending (λ a b. a < b) (numbers t)
   pub given : AllByRecursion (λ n. (0 < n) × (n ≤ t.last_number)) (numbers t)
-  pub limit : length t.handles ≤ max_handles
+  pub limit : length t.handles ≤ max_in_table
   pub on_live : AreOn (numbers t) t.interfaces
 
 -- ---- handles and interfaces that come

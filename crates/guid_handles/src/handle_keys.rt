@@ -1,5 +1,5 @@
 //! The keys of the interfaces on one handle.
-ghost use Rattle.std.specs.Prelude.{◌≡◌, ◌==◌, ◌++◌, [], ◌∷◌, not, IsTrue, IfOk, OnOk, OnErr};
+ghost use Rattle.std.specs.Prelude.{◌≡◌, ◌≤◌, ◌==◌, ◌++◌, [], ◌∷◌, not, take, IsTrue, IfOk, OnOk, OnErr};
 ghost use Rattle.std.specs.List.{filter};
 ghost use Rattle.std.specs.Mem.{FitsInMemory};
 
@@ -67,7 +67,18 @@ impl<A: Allocator + Copy> HandleKeys<A> {
         })
     }
 
+    /// The first `count` keys of a buffer, which take no memory.
+    #[inline(always)]
+    pub(crate) fn few(&self, buffer: [u32; INLINE_KEYS], count: usize) -> HandleKeys<A>
+        requires { count ≤ 4 }
+        ensures { result ≡ take count buffer }
+    {
+        let keys = SmallVec::from_buf_and_len(*self.keys.allocator(), buffer, count);
+        HandleKeys { keys }
+    }
+
     /// The same keys, in memory of their own.
+    #[inline(never)]
     pub(crate) fn try_copy(&self) -> Result<HandleKeys<A>, AllocError>
         ensures { IfOk result (λ copy. copy ≡ self.now) }
     {

@@ -1,5 +1,5 @@
 //! The row of one handle.
-ghost use Rattle.std.specs.Prelude.{◌≡◌, ◌==◌, ◌++◌, [], ◌∷◌, not, true, false, length, IfOk, OnOk, OnErr};
+ghost use Rattle.std.specs.Prelude.{◌≡◌, ◌<◌, ◌==◌, ◌++◌, [], ◌∷◌, not, true, false, length, vec_len, vec_capacity, IfOk, OnOk, OnErr};
 ghost use Rattle.std.specs.List.{filter};
 ghost use Rattle.guid_handles.specs.Indexes.{is_filed_of};
 
@@ -52,18 +52,43 @@ impl<A: Allocator + Copy> HandleRow<A> {
         })
     }
 
-    /// The same handle and keys, in memory of their own.
-    pub(crate) fn try_copy(&self) -> Result<HandleRow<A>, AllocError>
-        ensures { IfOk result (λ copy. copy ≡ self.now) }
+    /// The same handle with other keys.
+    #[inline(always)]
+    fn with_keys(&self, keys: HandleKeys<A>) -> HandleRow<A>
+        ensures { result ≡ record {
+          row = record { live = self.now.row.live; keys = keys };
+          gone = self.now.gone;
+        } }
     {
-        let keys = self.keys.try_copy()?;
-        Ok(HandleRow {
+        HandleRow {
             number: self.number,
             gone: self.gone,
             is_made: self.is_made,
             keys,
             maker: self.maker,
-        })
+        }
+    }
+
+    /// Appends the same handle and keys, in memory of their own, to rows that have room. Few keys are
+    /// copied one by one, which is faster than a slice of any length. On an `Err` the rows are as they
+    /// were.
+    #[inline(always)]
+    pub(crate) fn push_copy(&self, copies: &mut Vec<HandleRow<A>, A>) -> Result<(), AllocError>
+        requires { vec_len copies.old < vec_capacity copies.old }
+        ensures ok { OnOk result (copies.new.items ≡ copies.old.items ++ self.now ∷ []) }
+        ensures err { OnErr result (copies.new.items ≡ copies.old.items) }
+        ensures capacity { vec_capacity copies.new ≡ vec_capacity copies.old }
+    {
+        let keys = &self.keys;
+        match keys.as_slice() {
+            [] => copies.push_reserved(self.with_keys(keys.few([0, 0, 0, 0], 0))),
+            [a] => copies.push_reserved(self.with_keys(keys.few([*a, 0, 0, 0], 1))),
+            [a, b] => copies.push_reserved(self.with_keys(keys.few([*a, *b, 0, 0], 2))),
+            [a, b, c] => copies.push_reserved(self.with_keys(keys.few([*a, *b, *c, 0], 3))),
+            [a, b, c, d] => copies.push_reserved(self.with_keys(keys.few([*a, *b, *c, *d], 4))),
+            _ => copies.push_reserved(self.with_keys(keys.try_copy()?)),
+        }
+        Ok(())
     }
 
     /// The handle.

@@ -2,7 +2,7 @@
 ghost use Rattle.std.specs.Prelude.{◌≡◌, ◌≢◌, ◌+◌, ◌-◌, ◌<◌, ◌≤◌, ◌^◌, ◌==◌, ◌&&◌, ℕ, List, cond, not, is_some, IsSome, IfSome, IfNone, OnOk, true, false, nat_lt, [], ◌∷◌, ◌++◌, map, length, option_map, slice_get, None, Some, IfOk, OnErr};
 ghost use Rattle.std.specs.List.{find, filter, list_any, AllByRecursion};
 ghost use Rattle.guid_handles.specs.HandleTables.{numbers, same_guid, has_number, is_live, is_on, is_at, maker_of, interface_at, value_at, carries, holders_of, interfaces_on, guids_on, written_over, earliest, is_after, next_after};
-ghost use Rattle.guid_handles.specs.HandleChanges.{IsHandleTable, max_handles, max_installed, has_guid_twice, is_dead, is_taken, past_limit, refusal, with_interfaces, with_handle, install_refusal, install_many_refusal, Installs, without_handle, without_interface, with_value};
+ghost use Rattle.guid_handles.specs.HandleChanges.{IsHandleTable, max_in_table, max_installed, has_guid_twice, is_dead, is_taken, past_limit, refusal, with_interfaces, with_handle, install_refusal, install_many_refusal, Installs, without_handle, without_interface, with_value};
 ghost use Rattle.guid_handles.specs.Indexes.{AreAbsent, ChangesKeys, ChangesTurns, HaveSameKeys, HaveSameTurns, SetsKey, is_row_of, key_at, turns_of, with_turn};
 ghost use Rattle.guid_handles.specs.Slots.{record_at, with_stamp};
 ghost use Rattle.guid_handles.specs.Sorting.{Ascending};
@@ -11,6 +11,7 @@ ghost use Rattle.guid_handles.specs.TableSteps.{AreOthersLower, AreOthersOlder, 
 ghost use Rattle.guid_handles.specs.Stores.{AgreeOnKeys};
 
 use crate::groups::Groups;
+use crate::guids::is_same_guid;
 use crate::records::{Interface, LiveHandle, Maker, Record};
 use crate::room::make_slot;
 use crate::rows::Rows;
@@ -23,6 +24,10 @@ use uuid::Uuid;
 
 /// The most handles that may be live.
 pub const MAX_HANDLES: usize = 4096;
+
+/// The most handles in a table. While drivers are started it also has those that go once this is done,
+/// at most as many as may be live.
+pub const MAX_IN_TABLE: usize = 2 * MAX_HANDLES;
 
 /// The most interfaces that one call may install.
 pub const MAX_INSTALLED: usize = 16;
@@ -168,9 +173,10 @@ impl<A: Allocator + Copy> Handles<A> {
     pub fn try_copy(&self) -> Result<Handles<A>, AllocError>
         ensures { IfOk result (λ copy. copy ≡ self.now) }
     {
-        let rows = self.rows.try_copy()?;
-        let records = self.records.clone()?;
         let groups = self.groups.try_copy()?;
+        let records = self.records.clone()?;
+        // A drop of the copy goes through its rows, which are still in the cache if copied last.
+        let rows = self.rows.try_copy()?;
         Ok(Handles {
             rows,
             records,
@@ -445,7 +451,7 @@ impl<A: Allocator + Copy> Handles<A> {
 
     /// Makes a handle without interfaces, and returns its number.
     fn make_bare(&mut self, maker: Option<Maker>) -> Result<u64, AllocError>
-        requires room { length self.old.handles < max_handles }
+        requires room { length self.old.handles < max_in_table }
         requires numbers { self.old.last_number < 2 ^ 62 }
         ensures ok { IfOk result (λ n. MakesHandle maker self.old n self.new) }
         ensures proper { IsHandleTable self.old }
@@ -474,7 +480,7 @@ impl<A: Allocator + Copy> Handles<A> {
         maker: Option<Maker>,
         pairs: &[(Uuid, u64)],
     ) -> Result<u64, AllocError>
-        requires room { length self.old.handles < max_handles }
+        requires room { length self.old.handles < max_in_table }
         requires once { has_guid_twice pairs.now ≡ false }
         requires numbers { self.old.last_number < 2 ^ 62 }
         requires stamps { self.old.last_stamp < 2 ^ 62 }
@@ -552,7 +558,7 @@ impl<A: Allocator + Copy> Handles<A> {
         agent: u64,
         pairs: &[(Uuid, u64)],
     ) -> Result<u64, AllocError>
-        requires room { length self.old.handles < max_handles }
+        requires room { length self.old.handles < max_in_table }
         requires some { 0 < length pairs.now }
         requires once { has_guid_twice pairs.now ≡ false }
         requires numbers { self.old.last_number < 2 ^ 62 }
@@ -713,5 +719,5 @@ pub fn has_guid_twice(pairs: &[(Uuid, u64)]) -> bool
 fn has_guid(pairs: &[(Uuid, u64)], guid: Uuid) -> bool
     ensures { result ≡ list_any (λ p. same_guid guid p.0) pairs.now }
 {
-    pairs.iter().any(|pair| guid == pair.0)
+    pairs.iter().any(|pair| is_same_guid(&guid, &pair.0))
 }

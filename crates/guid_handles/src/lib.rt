@@ -21,6 +21,6 @@ mod turns;
 
 pub use blocks::Blocks;
 pub use guids::is_same_guid;
-pub use handles::{Handles, MAX_HANDLES, MAX_INSTALLED, has_guid_twice};
+pub use handles::{Handles, MAX_HANDLES, MAX_IN_TABLE, MAX_INSTALLED, has_guid_twice};
 pub use places::add_place;
 pub use records::{Interface, LiveHandle, Maker};

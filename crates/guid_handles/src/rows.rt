@@ -121,10 +121,9 @@ fn copy_rows<A: Allocator + Copy>(
 ) -> Result<Vec<HandleRow<A>, A>, AllocError>
     ensures { IfOk result (λ copies. copies.items ≡ rows.now) }
 {
-    let mut copies = Vec::new(alloc);
-    copies.reserve(rows.len())?;
+    let mut copies = Vec::with_capacity(alloc, rows.len())?;
     for row in rows {
-        copies.push(row.try_copy()?)?;
+        row.push_copy(&mut copies)?;
     }
     Ok(copies)
 }
@@ -205,8 +204,8 @@ impl<A: Allocator + Copy> Rows<A> {
     {
         let alloc = *self.numbers.allocator();
         let numbers = self.numbers.try_copy()?;
-        let rows = copy_rows(alloc, self.rows.as_slice())?;
         let made = self.made.try_copy()?;
+        let rows = copy_rows(alloc, self.rows.as_slice())?;
         Ok(Rows {
             rows,
             numbers,
