@@ -475,8 +475,8 @@ static struct rafkudin *full_table(void)
     return core;
 }
 
-/* The children that a driver makes anew have no room beside those that go, so the core copies all
- * handles. */
+/* The children that a driver makes anew lie beside those that go until the core takes no more memory:
+ * the table then has more handles than may be live. */
 static void refuse_on_full_table(void)
 {
     struct call reinstall = {REINSTALL, 1, DRIVEN, 5, 0};

@@ -7,7 +7,7 @@ use Rattle.driver_connect.specs.Stopping.{is_one_of}
 use Rattle.driver_connect.proofs.Filters.{left_out_none}
 
 -- none of some numbers is one that all are above
-none_above : (n : ℕ) (ns : List ℕ) → AllByRecursion (λ m. n < m) ns → is_one_of ns n ≡ false
+pub none_above : (n : ℕ) (ns : List ℕ) → AllByRecursion (λ m. n < m) ns → is_one_of ns n ≡ false
 none_above n [] h = refl
 none_above n (m ∷ ms) h = let e : (n == m) ≡ false = ne_eqb n m (λ e. omega (arith, e, h.0)) in rw e (none_above n ms h.1)
 

@@ -101,7 +101,7 @@ none_of p n h (m ∷ ms) = elim (cases_Bool (p m)) [
   | inr e ↦ rw e (none_of p n h ms)
 ]
 
-one_of_passing : (p : ℕ → Bool) (n : ℕ) → p n ≡ true → (ns : List ℕ) → is_one_of ns n ≡ true → is_one_of (filter p ns) n ≡ true
+pub one_of_passing : (p : ℕ → Bool) (n : ℕ) → p n ≡ true → (ns : List ℕ) → is_one_of ns n ≡ true → is_one_of (filter p ns) n ≡ true
 one_of_passing p n h [] k = k
 one_of_passing p n h (m ∷ ms) k = elim (eqb_tells n m) [
   | inl t ↦ let k : p m ≡ true = rw t.1 at h in rw k (rw t.0 refl)

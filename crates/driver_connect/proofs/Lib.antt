@@ -32,6 +32,8 @@ pub mod GoingOn
 pub mod Beside
 pub mod LeavingAgents
 pub mod AfterStops
+pub mod ReadyAfter
 pub mod Restamped
 pub mod OnePair
 pub mod Lives
+pub mod Slots

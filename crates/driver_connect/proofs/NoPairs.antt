@@ -5,12 +5,11 @@ use Rattle.std.proofs.lemmas.Bool.{eqb-true}
 use Rattle.guid_handles.specs.declared.records.Maker.{Maker}
 use Rattle.guid_handles.specs.HandleTables.{HandleTable, maker_of, numbers}
 use Rattle.guid_handles.proofs.GuidOrder.{and_false}
-use Rattle.open_agents.specs.declared.items.Manager.{Manager}
 use Rattle.open_agents.specs.declared.items.OpenRecord.{OpenRecord}
 use Rattle.open_agents.specs.OpenItems.{is_for_driver}
 use Rattle.driver_connect.specs.declared.stopping.Opener.{Opener}
 use Rattle.driver_connect.specs.Drivers.{Meaning}
-use Rattle.driver_connect.specs.Stopping.{planned_stop, can_be_stopped, is_maker, is_made_by, is_no_obstacle, made_by, managers_of_made, manages_made, rounds, spares_opener, stop_set}
+use Rattle.driver_connect.specs.Stopping.{can_be_stopped, is_maker, is_made_by, is_no_obstacle, made_by, managers_of_made, manages_made, rounds, spares_opener, stop_set}
 
 none_made : (t : HandleTable) (n : ℕ) → is_made_by t [] n ≡ false
 none_made t n = no_maker (maker_of t n)
@@ -52,6 +51,3 @@ nothing_hinders ds t opens handle opener = rw (clear t opens) (rw (none_made t h
 pub none_in : {X : Type 0} (xs : List X) → (length xs == 0) ≡ true → xs ≡ []
 none_in [] h = refl
 none_in (x ∷ xs) h = absurd (let e : suc (length xs) ≡ 0 = eqb-true (suc (length xs)) 0 h in omega (arith, e))
-
-pub nothing_planned : (t : HandleTable) (opens : List OpenRecord) (pairs : List Manager) → (length pairs == 0) ≡ true → record { pairs = []; handles = [] } ≡ planned_stop t opens pairs
-nothing_planned t opens pairs e = rw (none_in pairs e) (rw (empty_set t opens) (rw (none_made_by t) refl))

@@ -5,7 +5,7 @@ use Rattle.std.proofs.lemmas.Bool.{cases_Bool}
 use Rattle.std.proofs.lemmas.Bool.Decides.{eqb_tells}
 use Rattle.guid_handles.specs.declared.records.Interface.{Interface}
 use Rattle.guid_handles.specs.HandleTables.{HandleTable, same_guid, is_on}
-use Rattle.guid_handles.specs.HandleChanges.{max_handles}
+use Rattle.guid_handles.specs.HandleChanges.{max_in_table}
 use Rattle.guid_handles.proofs.SortedLists.{drop_next}
 use Rattle.guid_handles.proofs.GuidOrder.{same_guid-true}
 use Rattle.open_agents.specs.declared.items.OpenRecord.{OpenRecord}
@@ -116,8 +116,8 @@ passes_more c starts agents n k p whole l z h =
 
 -- ---- bounds
 
-pub numbers_rise : (s t : HandleTable) → Grows s t → length t.handles ≤ max_handles → t.last_number ≤ s.last_number + 4096
+pub numbers_rise : (s t : HandleTable) → Grows s t → length t.handles ≤ max_in_table → t.last_number ≤ s.last_number + 8192
 numbers_rise s t a l = omega (arith, a.numbers, l)
 
-pub stamps_rise : (s t : HandleTable) → Grows s t → length t.handles ≤ max_handles → t.last_stamp ≤ s.last_stamp + 16384
+pub stamps_rise : (s t : HandleTable) → Grows s t → length t.handles ≤ max_in_table → t.last_stamp ≤ s.last_stamp + 32768
 stamps_rise s t a l = omega (arith, a.stamps, l)

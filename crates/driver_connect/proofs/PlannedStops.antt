@@ -7,8 +7,10 @@ use Rattle.guid_handles.specs.HandleTables.{HandleTable, numbers, same_guid}
 use Rattle.guid_handles.proofs.GuidOrder.{and_false}
 use Rattle.open_agents.specs.declared.items.Manager.{Manager}
 use Rattle.open_agents.specs.declared.items.OpenRecord.{OpenRecord}
-use Rattle.open_agents.specs.OpenItems.{counted, is_equal_item, is_exclusive, is_for_driver, is_kept, is_of_pair, is_open_on, items_on, keeps, manager_of, once_more, with_item, without_items}
+use Rattle.open_agents.specs.Blocks.{is_near}
+use Rattle.open_agents.specs.OpenItems.{counted, is_equal_item, is_exclusive, is_for_driver, is_holding, is_keeping, is_kept, is_of_pair, is_open_on, keeps, manager_of, once_more, with_item, without_items}
 use Rattle.open_agents.specs.OpenRule.{has_holder}
+use Rattle.open_agents.proofs.Asked.{any_listed, handle_near}
 use Rattle.driver_connect.specs.declared.stopping.Opener.{Opener}
 use Rattle.driver_connect.specs.Drivers.{Meaning}
 use Rattle.driver_connect.specs.Stopping.{PlannedStop, takes_item, can_be_stopped, has_agent, has_pair, is_made_by, is_unobstructed, made_by, may_stop, names_any, spares_opener, without_opens}
@@ -39,49 +41,48 @@ taken_at_once plan opens = filter_twice (names_any plan.handles) (λ o. has_pair
 
 -- ---- what is left on an interface
 
-any_left : (q : ℕ → Bool) (plan : PlannedStop) (n : ℕ) (guid : List ℕ) (opens : List OpenRecord)
-    → list_any (λ i. q i.attributes && not (takes_item plan n i.agent i.controller)) (items_on opens n guid) ≡ list_any (λ o. is_open_on n guid o && q o.attributes) (without_items (takes plan) opens)
-any_left q plan n guid [] = refl
-any_left q plan n guid (o ∷ os) =
-    let r = any_left q plan n guid os in
-    elim (cases_Bool (is_open_on n guid o)) [
+-- an item near an interface that passes a test and is left
+left_near : (q : OpenRecord → Bool) (plan : PlannedStop) (n : ℕ) → ((o : OpenRecord) → q o ≡ true → o.handle ≡ n) → (opens : List OpenRecord)
+    → list_any (λ o. q o && not (takes_item plan n o.agent o.controller)) (filter (is_near n) opens) ≡ list_any q (without_items (takes plan) opens)
+left_near q plan n h [] = refl
+left_near q plan n h (o ∷ os) =
+    let r = left_near q plan n h os in
+    elim (cases_Bool (q o)) [
       | inl e ↦
-          let h : o.handle ≡ n = same_number o.handle n (and_parts (o.handle == n) (same_guid o.guid guid) e).0 in
+          let s : o.handle ≡ n = h o e in
+          let near : is_near n o ≡ true = handle_near n o (eq-eqb o.handle n s) in
           elim (cases_Bool (takes plan o)) [
-            | inl k ↦
-                let m : takes_item plan n o.agent o.controller ≡ true = rw h at k in
-                rw e (rw m (rw k (rw (and_false (q o.attributes)) r)))
-            | inr k ↦
-                let m : takes_item plan n o.agent o.controller ≡ false = rw h at k in
-                elim (cases_Bool (q o.attributes)) [
-                  | inl f ↦ rw e (rw f (rw m (rw k (rw e (rw f refl)))))
-                  | inr f ↦ rw e (rw f (rw k (rw e (rw f r))))
-                ]
+            | inl k ↦ let m : takes_item plan n o.agent o.controller ≡ true = rw s at k in rw near (rw e (rw m (rw k r)))
+            | inr k ↦ let m : takes_item plan n o.agent o.controller ≡ false = rw s at k in rw near (rw e (rw m (rw k (rw e refl))))
           ]
-      | inr e ↦ elim (cases_Bool (takes plan o)) [
-        | inl k ↦ rw e (rw k r)
-        | inr k ↦ rw e (rw k (rw e r))
+      | inr e ↦ elim (cases_Bool (is_near n o)) [
+        | inl near ↦ elim (cases_Bool (takes plan o)) [
+          | inl k ↦ rw near (rw e (rw k r))
+          | inr k ↦ rw near (rw e (rw k (rw e r)))
+        ]
+        | inr near ↦ elim (cases_Bool (takes plan o)) [
+          | inl k ↦ rw near (rw k r)
+          | inr k ↦ rw near (rw k (rw e r))
+        ]
       ]
     ]
 
-any_listed : (q : ℕ → Bool) (n : ℕ) (guid : List ℕ) (opens : List OpenRecord) → list_any (λ o. is_open_on n guid o && q o.attributes) opens ≡ list_any (λ i. q i.attributes) (items_on opens n guid)
-any_listed q n guid [] = refl
-any_listed q n guid (o ∷ os) = elim (cases_Bool (is_open_on n guid o)) [
-  | inl e ↦ rw e (ap (λ r. q o.attributes || r) (any_listed q n guid os))
-  | inr e ↦ rw e (any_listed q n guid os)
-]
+on_handle : (n : ℕ) (guid : List ℕ) (b : Bool) (o : OpenRecord) → (is_open_on n guid o && b) ≡ true → o.handle ≡ n
+on_handle n guid b o e = same_number o.handle n (and_parts (o.handle == n) (same_guid o.guid guid) (and_parts (is_open_on n guid o) b e).0).0
 
 -- an item that keeps its interface is left
-pub kept_left : (plan : PlannedStop) (n : ℕ) (guid : List ℕ) (opens : List OpenRecord)
-    → list_any (λ i. keeps i.attributes && not (takes_item plan n i.agent i.controller)) (items_on opens n guid) ≡ is_kept (without_opens plan.handles plan.pairs opens) n guid
-kept_left plan n guid opens =
-    any_left keeps plan n guid opens ∙ any_listed keeps n guid (without_items (takes plan) opens) ∙ ap (λ (os : List OpenRecord). is_kept os n guid) (sym (taken_at_once plan opens))
+pub kept_near : (plan : PlannedStop) (n : ℕ) (guid : List ℕ) (opens : List OpenRecord)
+    → list_any (λ o. is_keeping n guid o && not (takes_item plan n o.agent o.controller)) (filter (is_near n) opens) ≡ is_kept (without_opens plan.handles plan.pairs opens) n guid
+kept_near plan n guid opens =
+    left_near (is_keeping n guid) plan n (λ o e. on_handle n guid (keeps o.attributes) o e) opens
+    ∙ any_listed keeps n guid (without_items (takes plan) opens) ∙ ap (λ (os : List OpenRecord). is_kept os n guid) (sym (taken_at_once plan opens))
 
 -- an item that holds its interface is left
-pub held_left : (plan : PlannedStop) (n : ℕ) (guid : List ℕ) (opens : List OpenRecord)
-    → list_any (λ i. (is_for_driver i.attributes || is_exclusive i.attributes) && not (takes_item plan n i.agent i.controller)) (items_on opens n guid) ≡ has_holder (without_opens plan.handles plan.pairs opens) n guid
-held_left plan n guid opens =
-    any_left (λ a. is_for_driver a || is_exclusive a) plan n guid opens ∙ ap (λ (os : List OpenRecord). has_holder os n guid) (sym (taken_at_once plan opens))
+pub held_near : (plan : PlannedStop) (n : ℕ) (guid : List ℕ) (opens : List OpenRecord)
+    → list_any (λ o. is_holding n guid o && not (takes_item plan n o.agent o.controller)) (filter (is_near n) opens) ≡ has_holder (without_opens plan.handles plan.pairs opens) n guid
+held_near plan n guid opens =
+    left_near (is_holding n guid) plan n (λ o e. on_handle n guid (is_for_driver o.attributes || is_exclusive o.attributes) o e) opens
+    ∙ ap (λ (os : List OpenRecord). has_holder os n guid) (sym (taken_at_once plan opens))
 
 -- ---- an item that is added before a stop
 

@@ -1,13 +1,13 @@
 -- Drivers that would be started on a handle, and their starts carried out, on the lists as they
 -- are.
-use Rattle.std.specs.Prelude.{◌≡◌, ℕ, ◌&&◌, not, Bool, cond, List, length, map}
-use Rattle.std.specs.List.{list_any}
+use Rattle.std.specs.Prelude.{◌≡◌, ℕ, ◌&&◌, not, Bool, cond, List, [], length, map}
+use Rattle.std.specs.List.{cons_option, list_any}
 use Rattle.guid_handles.specs.HandleTables.{HandleTable, same_guid}
 use Rattle.open_agents.specs.declared.items.OpenRecord.{OpenRecord}
 use Rattle.open_agents.specs.OpenRule.{has_holder}
 use Rattle.driver_connect.specs.declared.agents.Agent.{Agent}
 use Rattle.driver_connect.specs.declared.view.ProtocolView.{ProtocolView}
-use Rattle.driver_connect.specs.Drivers.{Meaning, protocols_on, supports_at, plan_at}
+use Rattle.driver_connect.specs.Drivers.{Meaning, agent_of, protocols_on, supports_at, plan_at}
 use Rattle.driver_connect.specs.Starting.{can_start, agents_for}
 
 -- a driver is supported on a handle with some protocols, and its plan can be carried out there
@@ -30,6 +30,11 @@ abbrev pub TellsAnyReady : {D : Type 0} → (D → Meaning) → List D → ℕ �
 TellsAnyReady meaning drivers count protocols n agents ready =
     (t : HandleTable) → count ≡ length t.handles
     → ready ≡ list_any (is_ready (map meaning drivers) t protocols n) agents
+
+-- a handle has a driver, which is ready on a handle with some protocols
+abbrev pub has_ready_driver : List Meaning → HandleTable → List ProtocolView → ℕ → ℕ → Bool
+has_ready_driver ds t protocols n agent =
+    list_any (is_ready ds t protocols n) (cons_option (agent_of ds t agent) [])
 
 -- one of the drivers to be tried on a handle is ready
 abbrev pub is_any_ready : List Meaning → HandleTable → List OpenRecord → ℕ → List ℕ → Bool

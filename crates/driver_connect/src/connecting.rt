@@ -5,7 +5,7 @@ ghost use Rattle.driver_connect.specs.Connecting.{ConnectsBy};
 ghost use Rattle.driver_connect.specs.Beside.{MayLeave, reached};
 ghost use Rattle.driver_connect.specs.BesideSteps.{ConnectsBeside, ConnectsTo};
 ghost use Rattle.driver_connect.specs.Pending.{ConnectsOne, GrowsWith, first_last};
-ghost use Rattle.guid_handles.specs.HandleChanges.{max_handles};
+ghost use Rattle.guid_handles.specs.HandleChanges.{max_in_table};
 ghost use Rattle.driver_connect.specs.GoingOn.{GoesOn};
 ghost use Rattle.driver_connect.specs.Room.{HasRoom, Grows};
 ghost use Rattle.driver_connect.specs.Starting.{site_of, starts_on, is_any_carried_out as any};
@@ -13,7 +13,7 @@ ghost use Rattle.driver_connect.specs.Starting.{site_of, starts_on, is_any_carri
 use crate::driver::Driver;
 use crate::numbers::count_up_to;
 use crate::readiness::is_any_ready;
-use crate::starting::{Connecting, Unfinished, is_any_carried_out, run_passes};
+use crate::starting::{Connecting, is_any_carried_out, run_passes};
 use guid_handles::Handles;
 use open_agents::Opens;
 use page_ranges::Status;
@@ -84,7 +84,7 @@ fn connect_one<D: Driver, A: Allocator + Copy>(
         pending.old connecting.old pending.new connecting.new) }
     ensures fewer { OnOk result
         (GrowsWith pending.old connecting.old pending.new connecting.new) }
-    ensures limit { OnOk result (length connecting.new.handles.handles ≤ max_handles) }
+    ensures limit { OnOk result (length connecting.new.handles.handles ≤ max_in_table) }
     ensures grows { OnOk result (Grows connecting.old.handles connecting.new.handles) }
     ensures goes_on { GoesOn connecting.old connecting.new }
 {
@@ -173,8 +173,8 @@ fn connect_in_place<D: Driver, A: Allocator + Copy>(
     requires stamps { handles.old.last_stamp < 2 ^ 61 }
     ensures connects { ConnectsBy D.meaning drivers.now notify.now handle named.now recursive
         handles.old opens.old result handles.new opens.new }
-    ensures numbers { handles.new.last_number ≤ handles.old.last_number + 4096 }
-    ensures stamps { handles.new.last_stamp ≤ handles.old.last_stamp + 16384 }
+    ensures numbers { handles.new.last_number ≤ handles.old.last_number + 8192 }
+    ensures stamps { handles.new.last_stamp ≤ handles.old.last_stamp + 32768 }
 {
     // The contract of this look-up says that the handles are in order.
     let _numbers = handles.all();
@@ -198,7 +198,7 @@ fn connect_in_place<D: Driver, A: Allocator + Copy>(
             Err(Status::NotFound)
         }
         Err(_) => {
-            let _why = connecting.take_back(handles, opens, number, stamp, items);
+            connecting.take_back(handles, opens, number, stamp, items);
             Err(Status::OutOfResources)
         }
     }
@@ -221,8 +221,8 @@ pub fn connect<D: Driver, A: Allocator + Copy>(
     requires stamps { handles.old.last_stamp < 2 ^ 61 }
     ensures connects { ConnectsBy D.meaning drivers.now notify.now handle named.now recursive
         handles.old opens.old result handles.new opens.new }
-    ensures numbers { handles.new.last_number ≤ handles.old.last_number + 4096 }
-    ensures stamps { handles.new.last_stamp ≤ handles.old.last_stamp + 16384 }
+    ensures numbers { handles.new.last_number ≤ handles.old.last_number + 8192 }
+    ensures stamps { handles.new.last_stamp ≤ handles.old.last_stamp + 32768 }
 {
     if is_refused(handles, handle, named) {
         return Err(Status::InvalidParameter);
@@ -282,15 +282,15 @@ pub(crate) fn connect_below<D: Driver, A: Allocator + Copy>(
     drivers: &[D],
     handle: u64,
     given: &[u64],
-) -> Result<Vec<u64, A>, Unfinished>
+) -> Result<Vec<u64, A>, AllocError>
     requires leaving { MayLeave leaving.now handles.old }
     requires numbers { handles.old.last_number < 2 ^ 61 }
     requires stamps { handles.old.last_stamp < 2 ^ 61 }
     ensures ok { ConnectsBeside leaving.now D.meaning drivers.now notify.now
         handle handles.old opens.old given.now result handles.new opens.new }
     ensures err { OnErr result ((handles.new ≡ handles.old) × (opens.new ≡ opens.old)) }
-    ensures numbers { handles.new.last_number ≤ handles.old.last_number + 4096 }
-    ensures stamps { handles.new.last_stamp ≤ handles.old.last_stamp + 16384 }
+    ensures numbers { handles.new.last_number ≤ handles.old.last_number + 8192 }
+    ensures stamps { handles.new.last_stamp ≤ handles.old.last_stamp + 32768 }
 {
     // The contract of this look-up says that the handles are in order.
     let _numbers = handles.all();
@@ -303,6 +303,9 @@ pub(crate) fn connect_below<D: Driver, A: Allocator + Copy>(
             let _events = connecting.put_in_place(handles, opens);
             Ok(events)
         }
-        Err(_) => Err(connecting.take_back(handles, opens, number, stamp, count)),
+        Err(error) => {
+            connecting.take_back(handles, opens, number, stamp, count);
+            Err(error)
+        }
     }
 }

@@ -31,7 +31,7 @@ pub use laws::{
     start_order_law, starts_law, stays_law, stop_order_law, stop_set_law, tried_once_law,
     turns_law, versions_law,
 };
-pub use readiness::may_start_after;
+pub use readiness::is_ready_after;
 pub use reconnecting::replace_and_connect;
 pub use stop_order::{children_of, managers_to_stop, pairs_to_stop};
 pub use stopping::{Opener, StopPlan, disconnect, stop};

@@ -1,5 +1,6 @@
 //! Pairs of a controller and the agent that manages it, and the stop set of some.
-ghost use Rattle.std.specs.Prelude.{◌≡◌, ◌≤◌, IfOk, OnOk, length, drop};
+ghost use Rattle.std.specs.Prelude.{◌≡◌, ◌≤◌, [], List, IfOk, OnOk, length, drop};
+ghost use Rattle.open_agents.specs.declared.items.Manager.{Manager};
 ghost use Rattle.driver_connect.specs.Stopping as spec;
 
 use crate::made::made_by;
@@ -100,17 +101,41 @@ fn add_rounds<A: Allocator + Copy>(
     Ok(())
 }
 
-/// The stop set of some pairs.
+/// The set of some pairs.
+pub(crate) fn set_of_each<A: Allocator + Copy>(
+    alloc: A,
+    pairs: &[Manager],
+) -> Result<PairSet<A>, AllocError>
+    ensures { IfOk result (λ set. set ≡ spec.with_pairs [] pairs.now) }
+{
+    let mut set = PairSet::new(alloc);
+    add_pairs(&mut set, pairs)?;
+    Ok(set)
+}
+
+/// The set of some pairs. A single one stays in its memory.
+pub(crate) fn set_of<A: Allocator + Copy>(
+    alloc: A,
+    pairs: Vec<Manager, A>,
+) -> Result<PairSet<A>, AllocError>
+    ensures { IfOk result (λ set. set ≡ spec.with_pairs [] pairs.items) }
+{
+    if pairs.len() <= 1 {
+        return Ok(PairSet::of_at_most_one(alloc, pairs));
+    }
+    set_of_each(alloc, pairs.as_slice())
+}
+
+/// The stop set of the pairs of a set.
 pub(crate) fn stop_set<A: Allocator + Copy>(
     alloc: A,
     handles: &Handles<A>,
     opens: &Opens<A>,
-    pairs: &[Manager],
+    mut set: PairSet<A>,
 ) -> Result<PairSet<A>, AllocError>
-    ensures { IfOk result (λ set. set ≡ spec.stop_set handles.now opens.now pairs.now) }
+    ensures { IfOk result (λ whole. (pairs : List Manager) → set ≡ spec.with_pairs [] pairs
+        → whole ≡ spec.stop_set handles.now opens.now pairs) }
 {
-    let mut set = PairSet::new(alloc);
-    add_pairs(&mut set, pairs)?;
     // There are at most this many items, and further rounds add nothing.
     let most = handles.all().len() + opens.slots().len();
     add_rounds(alloc, &mut set, handles, opens, most)?;

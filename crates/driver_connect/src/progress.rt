@@ -3,7 +3,7 @@ ghost use Rattle.std.specs.Prelude.{◌≡◌, ◌+◌, ◌≤◌, ◌++◌, tru
 ghost use Rattle.std.specs.List.{list_all, AllByRecursion};
 ghost use Rattle.open_agents.specs.OpenRule.{has_holder};
 ghost use Rattle.guid_handles.specs.HandleTables.{HandleTable};
-ghost use Rattle.guid_handles.specs.HandleChanges.{max_handles};
+ghost use Rattle.guid_handles.specs.HandleChanges.{max_in_table};
 ghost use Rattle.driver_connect.specs.Drivers.{is_free};
 ghost use Rattle.driver_connect.specs.Starting as spec;
 ghost use Rattle.driver_connect.specs.GoingOn.{HasMade, HasOpened};
@@ -66,7 +66,7 @@ fn are_free(protocols: &[ProtocolView], guids: &[Uuid]) -> bool
 /// Whether a plan can be carried out on a handle with some protocols, where there are a number of
 /// handles.
 pub(crate) fn can_start(count: usize, protocols: &[ProtocolView], plan: &StartPlan) -> bool
-    requires { count ≤ max_handles }
+    requires { count ≤ max_in_table }
     ensures { (t : HandleTable) → count ≡ length t.handles
         → result ≡ spec.can_start t protocols.now plan.now }
 {
@@ -104,7 +104,7 @@ fn make_child<A: Allocator + Copy>(
 ) -> Result<(), AllocError>
     requires room { HasRoom handles.old }
     requires child { spec.is_child child.now.items ≡ true }
-    requires limit { length handles.old.handles + 1 ≤ max_handles }
+    requires limit { length handles.old.handles + 1 ≤ max_in_table }
     ensures handles { OnOk result
         (handles.new ≡ spec.with_child maker child.now.items handles.old) }
     ensures grows { OnOk result (Grows handles.old handles.new) }
@@ -123,7 +123,7 @@ pub(crate) fn make_children<A: Allocator + Copy>(
 ) -> Result<(), AllocError>
     requires room { HasRoom handles.old }
     requires children { list_all spec.is_child (map (λ c. c.items) children.now) ≡ true }
-    requires limit { length handles.old.handles + length children.now ≤ max_handles }
+    requires limit { length handles.old.handles + length children.now ≤ max_in_table }
     ensures handles { OnOk result
         (handles.new ≡ spec.with_children maker (map (λ c. c.items) children.now) handles.old) }
     ensures grows { OnOk result (Grows handles.old handles.new) }

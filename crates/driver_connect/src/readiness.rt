@@ -1,9 +1,13 @@
 //! Whether a connect would start a driver, on the lists as they are or once a stop is carried out.
-ghost use Rattle.std.specs.Prelude.{◌≡◌, ◌≤◌, ◌||◌, false, map, IfOk, OnOk};
-ghost use Rattle.guid_handles.specs.HandleChanges.{max_handles};
+ghost use Rattle.std.specs.Prelude.{◌≡◌, ◌≤◌, ◌==◌, ◌&&◌, ◌||◌, cond, length, map, IfOk};
+ghost use Rattle.std.specs.List.{list_any};
+ghost use Rattle.guid_handles.specs.HandleTables.{same_guid};
+ghost use Rattle.guid_handles.specs.HandleChanges.{max_in_table};
+ghost use Rattle.open_agents.specs.Blocks.{items_near};
 ghost use Rattle.open_agents.specs.OpenItems.{is_exclusive, is_for_driver as is_driver};
 ghost use Rattle.open_agents.specs.OpenRule.{has_holder};
-ghost use Rattle.driver_connect.specs.AfterStop.{AreTriedWith, JoinsByValue, is_ready_after, leaves_holder, opens_left, shown_after, shown_left};
+ghost use Rattle.driver_connect.specs.AfterStop.{handles_after, has_ready_after, holds_after, is_ready_after, opens_left, shown_after, shown_left};
+ghost use Rattle.driver_connect.specs.Drivers.{driver_binding, driver_of, protocol_view, protocols_on};
 ghost use Rattle.driver_connect.specs.Readiness as spec;
 ghost use Rattle.driver_connect.specs.Readiness.{TellsAnyReady, TellsReady};
 
@@ -14,8 +18,8 @@ use crate::progress::can_start;
 use crate::protocols::protocols_on;
 use crate::stopping::StopPlan;
 use crate::view::{ProtocolView, View};
-use guid_handles::Handles;
-use open_agents::{EXCLUSIVE, OpenItem, Opens, is_for_driver};
+use guid_handles::{Handles, Interface, is_same_guid};
+use open_agents::{EXCLUSIVE, Near, OpenRecord, Opens, is_for_driver, item_at};
 use std::alloc::{AllocError, Allocator};
 use uuid::Uuid;
 
@@ -28,7 +32,7 @@ fn is_ready<D: Driver>(
     controller: u64,
     agent: &Agent,
 ) -> bool
-    requires { count ≤ max_handles }
+    requires { count ≤ max_in_table }
     ensures { TellsReady D.meaning drivers.now count protocols.now controller agent.now result }
 {
     let view = View {
@@ -40,7 +44,8 @@ fn is_ready<D: Driver>(
         && can_start(count, protocols, &plan_at(drivers, agent.driver, &view))
 }
 
-/// Whether one of some agents is ready, where there are a number of handles.
+/// Whether one of some agents is ready, where there are a number of handles. Each question goes through this
+/// function, so that the plan of a driver that is asked is not on the stack of what comes after it.
 #[inline(never)]
 fn has_ready<D: Driver>(
     drivers: &[D],
@@ -49,7 +54,7 @@ fn has_ready<D: Driver>(
     controller: u64,
     agents: &[Agent],
 ) -> bool
-    requires { count ≤ max_handles }
+    requires { count ≤ max_in_table }
     ensures { TellsAnyReady D.meaning drivers.now count protocols.now controller agents.now result }
 {
     for agent in agents {
@@ -92,15 +97,38 @@ fn holds(attributes: u32) -> bool
     is_for_driver(attributes) || attributes == EXCLUSIVE
 }
 
-/// Whether an item of an interface holds it once a stop is carried out.
-fn has_holder_after<A: Allocator + Copy>(
+/// Whether an item holds an interface once a stop is carried out, which leaves the item.
+fn holds_after<A: Allocator + Copy>(
     plan: &StopPlan<A>,
+    o: &OpenRecord,
     handle: u64,
-    items: &[OpenItem],
+    guid: Uuid,
 ) -> bool
-    ensures { result ≡ leaves_holder plan.now handle items.now }
+    ensures { result ≡ holds_after plan.now handle guid o.now }
 {
-    items.iter().any(|i| holds(i.attributes) && !plan.takes_item(handle, i.agent, i.controller))
+    o.handle == handle
+        && is_same_guid(&o.guid, &guid)
+        && holds(o.attributes)
+        && !plan.takes_item(handle, o.agent, o.controller)
+}
+
+/// Whether an item near an interface holds it once a stop is carried out.
+fn has_holder_near<A: Allocator + Copy>(
+    plan: &StopPlan<A>,
+    near: Near<'_>,
+    handle: u64,
+    guid: Uuid,
+) -> bool
+    ensures { result ≡ list_any (holds_after plan.now handle guid) (items_near near.entry) }
+{
+    for place in near.places {
+        if let Some(o) = item_at(near.slots, *place) {
+            if holds_after(plan, o, handle, guid) {
+                return true;
+            }
+        }
+    }
+    false
 }
 
 /// Whether an interface is still held once a stop is carried out.
@@ -109,14 +137,13 @@ fn is_held_after<A: Allocator + Copy>(
     opens: &Opens<A>,
     handle: u64,
     guid: Uuid,
-) -> Result<bool, AllocError>
-    ensures { IfOk result (λ b. b ≡ has_holder (opens_left plan.now opens.now) handle guid) }
+) -> bool
+    ensures { result ≡ has_holder (opens_left plan.now opens.now) handle guid }
 {
-    let items = opens.items(handle, guid)?;
-    Ok(has_holder_after(plan, handle, items.as_slice()))
+    has_holder_near(plan, opens.near(handle), handle, guid)
 }
 
-/// A protocol on a handle, as drivers are shown it once a stop is carried out and the interface of a
+/// An interface on a handle, as drivers are shown it once a stop is carried out and the interface of a
 /// GUID there has another value and no item.
 fn protocol_after<A: Allocator + Copy>(
     plan: &StopPlan<A>,
@@ -124,41 +151,45 @@ fn protocol_after<A: Allocator + Copy>(
     handle: u64,
     guid: Uuid,
     value: u64,
-    protocol: &ProtocolView,
-) -> Result<ProtocolView, AllocError>
-    ensures { IfOk result (λ v. v ≡ shown_after plan.now opens.now handle guid value protocol.now) }
+    i: &Interface,
+) -> ProtocolView
+    ensures { result
+        ≡ shown_after plan.now opens.now handle guid value (protocol_view opens.now i.now) }
 {
-    if protocol.guid == guid {
-        return Ok(ProtocolView {
-            guid: protocol.guid,
+    if is_same_guid(&i.guid, &guid) {
+        return ProtocolView {
+            guid: i.guid,
             value,
             held: false,
-        });
+        };
     }
-    Ok(ProtocolView {
-        guid: protocol.guid,
-        value: protocol.value,
-        held: is_held_after(plan, opens, handle, protocol.guid)?,
-    })
+    ProtocolView {
+        guid: i.guid,
+        value: i.value,
+        held: is_held_after(plan, opens, handle, i.guid),
+    }
 }
 
-/// Protocols on a handle, as drivers are shown them once a stop is carried out and the interface of a
-/// GUID there has another value and no item.
+/// The protocols on a handle that stays, as drivers are shown them once a stop is carried out and the
+/// interface of a GUID there has another value and no item.
 fn protocols_after<A: Allocator + Copy>(
     alloc: A,
     plan: &StopPlan<A>,
+    handles: &Handles<A>,
     opens: &Opens<A>,
     handle: u64,
     guid: Uuid,
     value: u64,
-    protocols: &[ProtocolView],
 ) -> Result<Vec<ProtocolView, A>, AllocError>
     ensures { IfOk result
-        (λ v. v.items ≡ map (shown_after plan.now opens.now handle guid value) protocols.now) }
+        (λ v. v.items ≡ map (shown_after plan.now opens.now handle guid value)
+        (protocols_on handles.now opens.now handle)) }
 {
     let mut shown = Vec::new(alloc);
-    for protocol in protocols {
-        shown.push(protocol_after(plan, opens, handle, guid, value, protocol)?)?;
+    for at in 0..handles.interface_count(handle) {
+        if let Some(i) = handles.nth_interface(handle, at) {
+            shown.push(protocol_after(plan, opens, handle, guid, value, &i))?;
+        }
     }
     Ok(shown)
 }
@@ -180,60 +211,116 @@ fn protocols_left<A: Allocator + Copy>(
     if plan.takes_handle(handle) {
         return Ok(Vec::new(alloc));
     }
-    let protocols = protocols_on(alloc, handles, opens, handle)?;
-    protocols_after(
-        alloc,
-        plan,
-        opens,
-        handle,
-        guid,
-        value,
-        protocols.as_slice(),
-    )
+    protocols_after(alloc, plan, handles, opens, handle, guid, value)
 }
 
-/// Adds the driver that an interface of a GUID makes a handle's by its value, if there is one.
-fn add_by_value<D: Driver, A: Allocator + Copy>(
-    agents: &mut Vec<Agent, A>,
-    drivers: &[D],
-    handle: u64,
-    guid: Uuid,
-    value: u64,
-) -> Result<(), AllocError>
-    ensures { OnOk result
-        (JoinsByValue D.meaning drivers.now handle guid value agents.old agents.new) }
+/// The value of a handle's driver binding, where the interface of a GUID on a handle has another value.
+fn binding_after(agent: u64, own: u64, handle: u64, guid: Uuid, value: u64) -> u64
+    ensures { result ≡ cond ((agent == handle) && same_guid driver_binding guid) value own }
 {
-    if driver_binding() == guid && value < drivers.len() as u64 {
-        agents.push(Agent {
-            handle,
-            driver: value,
-            version: version_at(drivers, value),
-        })?;
+    if agent == handle && is_same_guid(&driver_binding(), &guid) {
+        value
+    } else {
+        own
     }
-    Ok(())
 }
 
-/// The drivers to be tried on a handle as things are, and the one that an interface of a GUID makes a
-/// handle's by its value.
-fn agents_with<D: Driver, A: Allocator + Copy>(
-    alloc: A,
-    drivers: &[D],
+/// The place of the driver on a handle once a stop is carried out and an interface has another value, if
+/// the handle is a driver handle then.
+fn driver_after<D: Driver, A: Allocator + Copy>(
+    plan: &StopPlan<A>,
     handles: &Handles<A>,
+    drivers: &[D],
     handle: u64,
     guid: Uuid,
     value: u64,
-) -> Result<Vec<Agent, A>, AllocError>
-    ensures { IfOk result (AreTriedWith D.meaning drivers.now handles.now handle guid value) }
+    agent: u64,
+) -> Option<u64>
+    ensures { result
+        ≡ driver_of (map D.meaning drivers.now)
+        (handles_after plan.now handles.now handle guid value) agent }
 {
-    let mut agents = agents_for(alloc, drivers, handles, &[])?;
-    add_by_value(&mut agents, drivers, handle, guid, value)?;
-    Ok(agents)
+    if plan.takes_handle(agent) {
+        return None;
+    }
+    let own = handles.interface(agent, driver_binding())?;
+    let place = binding_after(agent, own, handle, guid, value);
+    if place < drivers.len() as u64 {
+        Some(place)
+    } else {
+        None
+    }
 }
 
-/// Whether a connect of a handle may start a driver once a stop is carried out, the items on one of its
-/// interfaces are gone and it has another value. The lists stay as they are. A driver whose own handle goes
-/// with the stop, or has another driver then, is asked too, so the answer may be yes where none is started.
-pub fn may_start_after<D: Driver, A: Allocator + Copy>(
+/// Whether a handle has a driver once a stop is carried out and an interface has another value, which is
+/// ready then on the handle of the interface. The protocols there are given, and how many handles stay.
+fn has_ready_driver<D: Driver, A: Allocator + Copy>(
+    plan: &StopPlan<A>,
+    handles: &Handles<A>,
+    drivers: &[D],
+    protocols: &[ProtocolView],
+    count: usize,
+    handle: u64,
+    guid: Uuid,
+    value: u64,
+    agent: u64,
+) -> bool
+    requires count { count
+        ≡ length (handles_after plan.now handles.now handle guid value).handles }
+    requires limit { count ≤ max_in_table }
+    ensures { result
+        ≡ has_ready_after (map D.meaning drivers.now)
+        plan.now handles.now handle guid value protocols.now agent }
+{
+    match driver_after(plan, handles, drivers, handle, guid, value, agent) {
+        Some(driver) => has_ready(
+            drivers,
+            count,
+            protocols,
+            handle,
+            &[Agent {
+                handle: agent,
+                driver,
+                version: version_at(drivers, driver),
+            }],
+        ),
+        None => false,
+    }
+}
+
+/// Whether one of some handles has such a driver.
+fn has_any_ready_driver<D: Driver, A: Allocator + Copy>(
+    plan: &StopPlan<A>,
+    handles: &Handles<A>,
+    drivers: &[D],
+    protocols: &[ProtocolView],
+    count: usize,
+    handle: u64,
+    guid: Uuid,
+    value: u64,
+    agents: &[u64],
+) -> bool
+    requires count { count
+        ≡ length (handles_after plan.now handles.now handle guid value).handles }
+    requires limit { count ≤ max_in_table }
+    ensures { result
+        ≡ list_any
+        (has_ready_after (map D.meaning drivers.now)
+        plan.now handles.now handle guid value protocols.now) agents.now }
+{
+    for agent in agents {
+        if has_ready_driver(
+            plan, handles, drivers, protocols, count, handle, guid, value, *agent,
+        ) {
+            return true;
+        }
+    }
+    false
+}
+
+/// Whether a driver is ready on a handle once a stop is carried out, the items on one of its interfaces
+/// are gone and the interface has another value. The lists stay as they are.
+pub fn is_ready_after<D: Driver, A: Allocator + Copy>(
     alloc: A,
     plan: &StopPlan<A>,
     handles: &Handles<A>,
@@ -243,19 +330,21 @@ pub fn may_start_after<D: Driver, A: Allocator + Copy>(
     guid: Uuid,
     value: u64,
 ) -> Result<bool, AllocError>
-    ensures { IfOk result (λ may. may ≡ false
-        → is_ready_after (map D.meaning drivers.now)
-        plan.now handles.now opens.now handle guid value ≡ false) }
+    ensures { IfOk result
+        (λ b. b
+        ≡ is_ready_after (map D.meaning drivers.now)
+        plan.now handles.now opens.now handle guid value) }
 {
-    let agents = agents_with(alloc, drivers, handles, handle, guid, value)?;
     let protocols = protocols_left(alloc, plan, handles, opens, handle, guid, value)?;
-    // No more handles go than the plan lists.
-    let staying = handles.all().len().saturating_sub(plan.handles().len());
-    Ok(has_ready(
+    Ok(has_any_ready_driver(
+        plan,
+        handles,
         drivers,
-        staying,
         protocols.as_slice(),
+        plan.count_left(handles),
         handle,
-        agents.as_slice(),
+        guid,
+        value,
+        handles.by_protocol(driver_binding()),
     ))
 }

@@ -7,7 +7,6 @@ ghost use Rattle.driver_connect.specs.Stopping.{made_by, without_handles};
 
 use crate::connecting::connect_below;
 use crate::driver::Driver;
-use crate::starting::Unfinished;
 use crate::stopping::{StopPlan, remove_handles};
 use guid_handles::Handles;
 use open_agents::Opens;
@@ -30,7 +29,7 @@ fn replace_beside<D: Driver, A: Allocator + Copy>(
     guid: Uuid,
     value: u64,
     given: &[u64],
-) -> Result<Vec<u64, A>, Unfinished>
+) -> Result<Vec<u64, A>, AllocError>
     requires leaving { MayLeave leaving.now handles.old }
     requires there { carries (without_handles leaving.now handles.old) guid handle ≡ true }
     requires numbers { handles.old.last_number < 2 ^ 61 }
@@ -38,8 +37,8 @@ fn replace_beside<D: Driver, A: Allocator + Copy>(
     ensures ok { ReconnectsBeside leaving.now D.meaning drivers.now notify.now
         handle guid value handles.old opens.old given.now result handles.new opens.new }
     ensures err { OnErr result ((handles.new ≡ handles.old) × (opens.new ≡ opens.old)) }
-    ensures numbers { handles.new.last_number ≤ handles.old.last_number + 4096 }
-    ensures stamps { handles.new.last_stamp ≤ handles.old.last_stamp + 16385 }
+    ensures numbers { handles.new.last_number ≤ handles.old.last_number + 8192 }
+    ensures stamps { handles.new.last_stamp ≤ handles.old.last_stamp + 32769 }
 {
     let Some(own) = handles.installed(handle, guid) else {
         unreachable!();
@@ -66,51 +65,6 @@ fn replace_beside<D: Driver, A: Allocator + Copy>(
     }
 }
 
-/// The same, with the handles removed first, and a copy of all handles to be put back: for children that
-/// have no room beside the handles that go.
-fn replace_over_copy<D: Driver, A: Allocator + Copy>(
-    alloc: A,
-    leaving: &[u64],
-    handles: &mut Handles<A>,
-    opens: &mut Opens<A>,
-    notify: &Notify<A>,
-    drivers: &[D],
-    handle: u64,
-    guid: Uuid,
-    value: u64,
-    given: &[u64],
-) -> Result<Vec<u64, A>, AllocError>
-    requires there { carries (without_handles leaving.now handles.old) guid handle ≡ true }
-    requires numbers { handles.old.last_number < 2 ^ 61 }
-    requires stamps { handles.old.last_stamp + 1 < 2 ^ 61 }
-    ensures ok { ReconnectsBeside leaving.now D.meaning drivers.now notify.now
-        handle guid value handles.old opens.old given.now result handles.new opens.new }
-    ensures err { OnErr result ((handles.new ≡ handles.old) × (opens.new ≡ opens.old)) }
-    ensures numbers { handles.new.last_number ≤ handles.old.last_number + 4096 }
-    ensures stamps { handles.new.last_stamp ≤ handles.old.last_stamp + 16385 }
-{
-    let copy = handles.try_copy()?;
-    remove_handles(handles, leaving);
-    match replace_beside(
-        alloc,
-        &[],
-        handles,
-        opens,
-        notify,
-        drivers,
-        handle,
-        guid,
-        value,
-        given,
-    ) {
-        Ok(events) => Ok(events),
-        Err(_) => {
-            *handles = copy;
-            Err(AllocError)
-        }
-    }
-}
-
 /// Removes the handles of a stop, gives an interface of a handle that stays another value and a new
 /// stamp, and connects its handle with all below it, with no driver named. It returns the events given,
 /// then those of the connect. On an `Err` memory ran out, and nothing changes.
@@ -133,19 +87,21 @@ pub fn replace_and_connect<D: Driver, A: Allocator + Copy>(
     ensures ok { ReconnectsBeside plan.now.handles D.meaning drivers.now notify.now
         handle guid value handles.old opens.old given.now result handles.new opens.new }
     ensures err { OnErr result ((handles.new ≡ handles.old) × (opens.new ≡ opens.old)) }
-    ensures numbers { handles.new.last_number ≤ handles.old.last_number + 4096 }
-    ensures stamps { handles.new.last_stamp ≤ handles.old.last_stamp + 16385 }
+    ensures numbers { handles.new.last_number ≤ handles.old.last_number + 8192 }
+    ensures stamps { handles.new.last_stamp ≤ handles.old.last_stamp + 32769 }
 {
     // The contract of this look-up says that the handles are in order.
     let _numbers = handles.all();
-    let leaving = plan.handles();
-    match replace_beside(
-        alloc, leaving, handles, opens, notify, drivers, handle, guid, value, given,
-    ) {
-        Ok(events) => Ok(events),
-        Err(Unfinished::OutOfMemory) => Err(AllocError),
-        Err(Unfinished::NoRoom) => replace_over_copy(
-            alloc, leaving, handles, opens, notify, drivers, handle, guid, value, given,
-        ),
-    }
+    replace_beside(
+        alloc,
+        plan.handles(),
+        handles,
+        opens,
+        notify,
+        drivers,
+        handle,
+        guid,
+        value,
+        given,
+    )
 }

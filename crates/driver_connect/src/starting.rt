@@ -1,6 +1,6 @@
 //! Starting drivers on one handle.
 ghost use Rattle.std.specs.Prelude.{◌≡◌, ◌≤◌, ◌++◌, true, false, length, map, take, IfOk, OnOk};
-ghost use Rattle.guid_handles.specs.HandleChanges.{max_handles};
+ghost use Rattle.guid_handles.specs.HandleChanges.{max_in_table};
 ghost use Rattle.guid_handles.specs.TableSteps.{AreOlder, taken_back_to};
 ghost use Rattle.driver_connect.specs.Beside.{MayLeave, first_draft, reached};
 ghost use Rattle.driver_connect.specs.BesideSteps.{Passes, PassesAll, StartsOn, TakesTurn};
@@ -16,7 +16,7 @@ use crate::numbers::is_among;
 use crate::progress::{can_start, make_children, open_for_driver, signal_children};
 use crate::protocols::protocols_on;
 use crate::view::{ProtocolView, StartPlan, View};
-use guid_handles::{Handles, MAX_HANDLES, Maker};
+use guid_handles::{Handles, MAX_IN_TABLE, Maker};
 use open_agents::Opens;
 use protocol_notify::Notify;
 use std::alloc::{AllocError, Allocator};
@@ -31,14 +31,6 @@ pub struct Start {
     pub is_carried_out: bool,
 }
 
-/// Why a connect did not come to its end.
-#[derive(Clone, Copy)]
-pub(crate) enum Unfinished {
-    OutOfMemory,
-    /// There was no room for a plan beside the handles that go.
-    NoRoom,
-}
-
 /// How far a connect has come: the handles, the open items, and the events signaled.
 #[derive(Drop)]
 pub(crate) struct Connecting<'a, A: Allocator> {
@@ -47,8 +39,6 @@ pub(crate) struct Connecting<'a, A: Allocator> {
     pub(crate) events: Vec<u64, A>,
     /// Handles that go once the connect is done. Drivers are started as if they had gone.
     leaving: &'a [u64],
-    /// Whether there was no room for a plan only since these have not gone yet.
-    is_short: bool,
 }
 
 impl<'a, A: Allocator> Model for Connecting<'a, A> {
@@ -90,13 +80,12 @@ impl<'a, A: Allocator + Copy> Connecting<'a, A> {
             opens: mem::replace(opens, Opens::new(alloc)),
             events: Vec::new(alloc),
             leaving,
-            is_short: false,
         }
     }
 
     /// Takes back what was done since this number and this stamp were the last that were given and there
-    /// were this number of items, and puts the handles and open items back in place. It returns why that
-    /// was not done to its end. This takes no memory.
+    /// were this number of items, and puts the handles and open items back in place. This takes no
+    /// memory.
     pub(crate) fn take_back(
         self,
         handles: &mut Handles<A>,
@@ -104,7 +93,7 @@ impl<'a, A: Allocator + Copy> Connecting<'a, A> {
         number: u64,
         stamp: u64,
         items: usize,
-    ) -> Unfinished
+    )
         requires stamp { stamp ≤ self.handles.last_stamp }
         requires older { AreOlder number stamp self.handles }
         ensures handles { handles.new ≡ taken_back_to number stamp self.entry.handles }
@@ -115,17 +104,11 @@ impl<'a, A: Allocator + Copy> Connecting<'a, A> {
             opens: new_opens,
             events: _,
             leaving: _,
-            is_short,
         } = self;
         *handles = new_handles;
         *opens = new_opens;
         handles.take_back_to(number, stamp);
         opens.truncate(items);
-        if is_short {
-            Unfinished::NoRoom
-        } else {
-            Unfinished::OutOfMemory
-        }
     }
 
     /// Puts the changed handles and open items into the place of the others, and returns the events.
@@ -133,14 +116,13 @@ impl<'a, A: Allocator + Copy> Connecting<'a, A> {
         ensures handles { handles.new ≡ self.entry.handles }
         ensures opens { opens.new ≡ self.entry.opens }
         ensures events { result.items ≡ self.entry.events }
-        ensures limit { length handles.new.handles ≤ max_handles }
+        ensures limit { length handles.new.handles ≤ max_in_table }
     {
         let Connecting {
             handles: new_handles,
             opens: new_opens,
             events,
             leaving: _,
-            is_short: _,
         } = self;
         let _count = new_handles.all().len();
         *handles = new_handles;
@@ -151,7 +133,7 @@ impl<'a, A: Allocator + Copy> Connecting<'a, A> {
     /// How many handles there are that stay.
     fn count(&self) -> usize
         ensures count { result ≡ length (reached self.now).handles.handles }
-        ensures limit { result ≤ max_handles }
+        ensures limit { result ≤ max_in_table }
     {
         self.handles.all().len() - self.leaving.len()
     }
@@ -183,8 +165,8 @@ impl<'a, A: Allocator + Copy> Connecting<'a, A> {
         Ok(agents)
     }
 
-    /// Carries out a plan that can be. On an `Err` memory ran out, or there was no room for its children
-    /// beside the handles that go.
+    /// Carries out a plan that can be. On an `Err` memory ran out, or the table has no room for its children:
+    /// it has, where no more handles go than may be live.
     fn carry_out(
         &mut self,
         notify: &Notify<A>,
@@ -201,8 +183,7 @@ impl<'a, A: Allocator + Copy> Connecting<'a, A> {
         ensures grows { OnOk result (Grows self.old.handles self.new.handles) }
         ensures goes_on { GoesOn self.old self.new }
     {
-        if self.handles.all().len() + plan.children.len() > MAX_HANDLES {
-            self.is_short = true;
+        if self.handles.all().len() + plan.children.len() > MAX_IN_TABLE {
             return Err(AllocError);
         }
         open_for_driver(&mut self.opens, controller, agent, plan.opens.as_slice())?;

@@ -1,6 +1,9 @@
 //! Stopping drivers, with the handles that they made.
-ghost use Rattle.std.specs.Prelude.{◌≡◌, ◌==◌, ◌||◌, not, [], false, IfOk, OnErr, map};
+ghost use Rattle.std.specs.Prelude.{◌≡◌, ◌≤◌, ◌==◌, ◌||◌, not, [], List, false, length, IfOk, OnErr, map};
 ghost use Rattle.std.specs.List.{list_all, list_any, filter};
+ghost use Rattle.guid_handles.specs.HandleChanges.{max_in_table};
+ghost use Rattle.guid_handles.specs.HandleTables.{is_live};
+ghost use Rattle.open_agents.specs.declared.items.Manager.{Manager};
 ghost use Rattle.open_agents.specs.Blocks.{items_at};
 ghost use Rattle.open_agents.specs.OpenItems.{without_items};
 ghost use Rattle.driver_connect.specs.Stopping as spec;
@@ -8,8 +11,9 @@ ghost use Rattle.driver_connect.specs.Stopping as spec;
 use crate::agents::{driver_binding, driver_of, may_stop_at};
 use crate::driver::Driver;
 use crate::made::made_by;
+use crate::numbers::is_among;
 use crate::pair_set::PairSet;
-use crate::pairs::{is_made_by, stop_set};
+use crate::pairs::{is_made_by, set_of, set_of_each, stop_set};
 use crate::protocols::protocols_on;
 use crate::view::View;
 use guid_handles::Handles;
@@ -216,8 +220,15 @@ fn names_any(handles: &[u64], handle: u64, agent: u64, controller: u64) -> bool
         .any(|n| handle == *n || agent == *n || controller == *n)
 }
 
-/// What a stop removes, found on the lists as they are: the pairs that it stops, and the handles
-/// that these made.
+/// How many of some numbers are those of live handles.
+fn count_live<A: Allocator + Copy>(handles: &Handles<A>, numbers: &[u64]) -> usize
+    ensures { result ≡ length (filter (is_live handles.now) numbers.now) }
+{
+    numbers.iter().filter(|n| handles.is_live(**n)).count()
+}
+
+/// What a stop removes, found on the lists as they are: the items of the pairs that it stops, and the
+/// handles that these pairs made, ascending.
 #[derive(Drop)]
 pub struct StopPlan<A: Allocator = Global> {
     pairs: PairSet<A>,
@@ -225,11 +236,15 @@ pub struct StopPlan<A: Allocator = Global> {
 }
 
 impl<A: Allocator> Model for StopPlan<A> {
+    ghost use Rattle.std.specs.Prelude.{◌<◌};
+    ghost use Rattle.guid_handles.specs.Sorting.{Ascending};
     ghost use Rattle.driver_connect.specs.Stopping.{PlannedStop};
 
     ghost Value = { PlannedStop };
 
     ghost view = { λ p. record { pairs = p.pairs; handles = p.handles.items } };
+
+    ghost invariant = { λ p. Ascending (λ a b. a < b) p.handles.items };
 }
 
 impl<A: Allocator + Copy> StopPlan<A> {
@@ -242,18 +257,47 @@ impl<A: Allocator + Copy> StopPlan<A> {
     ) -> Result<StopPlan<A>, AllocError>
         ensures { IfOk result (λ plan. plan ≡ spec.planned_stop handles.now opens.now pairs.now) }
     {
-        if pairs.is_empty() {
+        let set = set_of_each(alloc, pairs)?;
+        StopPlan::of_set(alloc, handles, opens, set)
+    }
+
+    /// The same, where a single pair stays in its memory.
+    pub fn from_vec(
+        alloc: A,
+        handles: &Handles<A>,
+        opens: &Opens<A>,
+        pairs: Vec<Manager, A>,
+    ) -> Result<StopPlan<A>, AllocError>
+        ensures { IfOk result
+            (λ plan. plan ≡ spec.planned_stop handles.now opens.now pairs.items) }
+    {
+        let set = set_of(alloc, pairs)?;
+        StopPlan::of_set(alloc, handles, opens, set)
+    }
+
+    /// What the stop of the pairs of a set removes. Where they made no handle, it stops no other pairs.
+    fn of_set(
+        alloc: A,
+        handles: &Handles<A>,
+        opens: &Opens<A>,
+        set: PairSet<A>,
+    ) -> Result<StopPlan<A>, AllocError>
+        ensures { IfOk result (λ plan. (pairs : List Manager) → set ≡ spec.with_pairs [] pairs
+            → plan ≡ spec.planned_stop handles.now opens.now pairs) }
+    {
+        let made = made_by(alloc, handles, set.as_slice())?;
+        if made.is_empty() {
             return Ok(StopPlan {
-                pairs: PairSet::new(alloc),
-                handles: Vec::new(alloc),
+                pairs: set,
+                handles: made,
             });
         }
-        let pairs = stop_set(alloc, handles, opens, pairs)?;
+        let pairs = stop_set(alloc, handles, opens, set)?;
         let handles = made_by(alloc, handles, pairs.as_slice())?;
         Ok(StopPlan { pairs, handles })
     }
 
-    /// The pairs that the stop removes.
+    /// The pairs that the stop stops.
     pub(crate) fn pairs(&self) -> &[Manager]
         ensures { result.now ≡ self.now.pairs }
     {
@@ -271,7 +315,16 @@ impl<A: Allocator + Copy> StopPlan<A> {
     pub(crate) fn takes_handle(&self, handle: u64) -> bool
         ensures { result ≡ spec.is_one_of self.now.handles handle }
     {
-        self.handles.iter().any(|n| handle == *n)
+        is_among(self.handles.as_slice(), handle)
+    }
+
+    /// How many handles the stop leaves.
+    pub(crate) fn count_left(&self, handles: &Handles<A>) -> usize
+        ensures count { result
+            ≡ length (spec.without_handles self.now.handles handles.now).handles }
+        ensures limit { result ≤ max_in_table }
+    {
+        handles.all().len() - count_live(handles, self.handles.as_slice())
     }
 
     /// Whether the stop removes the items of an agent and a controller on a handle.

@@ -10,22 +10,9 @@ ghost use Rattle.map_keys.specs.Making.{last_entry, whole_entries, with_records,
 ghost use Rattle.map_keys.specs.Records.{record_size, records};
 
 use crate::records::{RECORD_SIZE, write_record};
-use descriptor_table::Leaf;
+use descriptor_table::{Leaf, block_of};
 use page_ranges::{Descriptor, Run};
 use std::alloc::Allocator;
-
-/// A run as an entry.
-#[inline(always)]
-fn entry_of(run: &Run) -> Descriptor
-    ensures { result ≡ entry_of run.now }
-{
-    Descriptor {
-        mtype: run.mtype,
-        first: run.range.first,
-        pages: run.range.pages,
-        attributes: run.attributes,
-    }
-}
 
 /// The run begins where the entry ends, and has its type and attributes. The types are compared first, since
 /// they differ where most entries end.
@@ -68,7 +55,7 @@ fn write_whole(
         }
         write_record(&mut buffer[used..], &entry);
         used += RECORD_SIZE;
-        entry = entry_of(run);
+        entry = block_of(run);
     }
     (used, entry)
 }
@@ -89,7 +76,7 @@ pub(crate) fn write_map<A: Allocator + Copy>(buffer: &mut [u8], leaves: &[Leaf<A
     // An entry of no pages, in which the first run goes on.
     let mut entry = Descriptor {
         pages: 0,
-        ..entry_of(&first)
+        ..block_of(&first)
     };
     for leaf in leaves {
         let (next, rest) = write_whole(buffer, used, entry, leaf.runs());

@@ -29,6 +29,15 @@ IsBestOf (Some (count, top)) bs =
 
 -- ---- the starts in an entry
 
+-- A search for the best start of a proper request in a conventional entry of the map of a proper
+-- memory, with how many entries the map has.
+pub record IsProperSearch (m : List Page) (r : Request) (count : ℕ) (e : Descriptor) : Type 0 where
+  pub proper : IsProperMemory m
+  pub good : IsProperRequest r
+  pub entries : count ≡ length (memory_map m)
+  pub entry : Contains (memory_map m) e
+  pub free : e.mtype ≡ conventional
+
 -- what was found in the entry: a permitted start with its price, or nothing yet
 abbrev pub IsFound : List Page → Request → Descriptor → Option (ℕ × ℕ) → Type 0
 IsFound m r e None = Unit {0}

@@ -1,12 +1,11 @@
 //! The search for the best start in one entry of a map after the other.
-ghost use Rattle.std.specs.Prelude.{◌≡◌, ◌↔◌, ◌+◌, ◌≤◌, Option, length, Contains, IsTrue};
-ghost use Rattle.page_ranges.specs.MemoryTypes.{conventional, is_specific_purpose};
+ghost use Rattle.std.specs.Prelude.{◌≡◌, ◌↔◌, ◌+◌, ◌≤◌, Option, Contains, IsTrue};
 ghost use Rattle.page_ranges.specs.Memory.{Page, page_at, page_below, IsProperMemory};
 ghost use Rattle.page_ranges.specs.MemoryMap.{memory_map};
 ghost use Rattle.page_ranges.specs.Cursors.{IsBlockAt};
-ghost use Rattle.placement_certificate.specs.Placement.{IsProperRequest, IsAvailable};
+ghost use Rattle.placement_certificate.specs.Placement.{IsAvailable};
 ghost use Rattle.placement_certificate.specs.Certificates.{IsTrueLeast};
-ghost use Rattle.placement_certificate.specs.Search.{IsStop, IsOnPage, IsAvailableBlock};
+ghost use Rattle.placement_certificate.specs.Search.{IsAvailableBlock, IsOnPage, IsProperSearch, IsStop};
 
 use crate::better::{PricedStart, better_of};
 use crate::certificates::Request;
@@ -143,10 +142,7 @@ impl<C: PageCursor + Drop> EntrySearch<C> {
         entry: &Descriptor,
         below: Option<Descriptor>,
     ) -> Option<PricedStart>
-        requires proper { IsProperMemory self.old }
-        requires good { IsProperRequest request.now }
-        requires entries { entries ≡ length (memory_map self.old) }
-        requires entry { Contains (memory_map self.old) entry.now }
+        requires search { IsProperSearch self.old request.now entries entry.now }
         requires available { IsAvailableBlock entry.now }
         requires below { IsOnPage below (page_below self.old entry.now.first) }
         ensures stays { self.new ≡ self.old }
@@ -187,11 +183,7 @@ impl<C: PageCursor + Drop> EntrySearch<C> {
         below: Option<Descriptor>,
         above: Option<Descriptor>,
     ) -> Option<PricedStart>
-        requires proper { IsProperMemory self.old }
-        requires good { IsProperRequest request.now }
-        requires entries { entries ≡ length (memory_map self.old) }
-        requires entry { Contains (memory_map self.old) entry.now }
-        requires free { entry.now.mtype ≡ conventional }
+        requires search { IsProperSearch self.old request.now entries entry.now }
         requires below { IsOnPage below (page_below self.old entry.now.first) }
         requires above { IsOnPage above (page_at self.old (entry.now.first + entry.now.pages)) }
         ensures stays { self.new ≡ self.old }
@@ -231,11 +223,7 @@ impl<C: PageCursor + Drop> EntrySearch<C> {
         entries: u64,
         entry: &Descriptor,
     ) -> Option<PricedStart>
-        requires proper { IsProperMemory self.old }
-        requires good { IsProperRequest request.now }
-        requires entries { entries ≡ length (memory_map self.old) }
-        requires entry { Contains (memory_map self.old) entry.now }
-        requires free { entry.now.mtype ≡ conventional }
+        requires { IsProperSearch self.old request.now entries entry.now }
         ensures stays { self.new ≡ self.old }
         ensures least { IsTrueLeast self.old request.now entry.now result }
     {

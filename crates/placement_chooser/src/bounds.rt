@@ -1,10 +1,7 @@
 //! What a certificate says of one conventional entry.
-ghost use Rattle.std.specs.Prelude.{◌≡◌, ℕ, ◌+◌, ◌^◌, ◌<◌, ◌≤◌, Option, length, Contains};
-ghost use Rattle.page_ranges.specs.MemoryTypes.{conventional};
-ghost use Rattle.page_ranges.specs.Memory.{IsProperMemory};
-ghost use Rattle.page_ranges.specs.MemoryMap.{memory_map};
+ghost use Rattle.std.specs.Prelude.{◌≡◌, ℕ, ◌+◌, ◌^◌, ◌<◌, ◌≤◌, Option};
 ghost use Rattle.placement_certificate.specs.Certificates.{IsTrueLeast};
-ghost use Rattle.placement_certificate.specs.Placement.{IsProperRequest};
+ghost use Rattle.placement_certificate.specs.Search.{IsProperSearch};
 ghost use Rattle.placement_chooser.specs.Starts.{IsOfferOf};
 
 use crate::offers::{Offer, least_beside, offer_alone};
@@ -35,11 +32,7 @@ pub(crate) fn least_in<B: Allocator + Copy>(
     free: FreeRun<'_, B>,
 ) -> Option<PricedStart>
     requires memory { search.old ≡ free.memory }
-    requires proper { IsProperMemory free.memory }
-    requires good { IsProperRequest request.now }
-    requires entries { entries ≡ length (memory_map free.memory) }
-    requires entry { Contains (memory_map free.memory) free.entry }
-    requires free { free.entry.mtype ≡ conventional }
+    requires search { IsProperSearch free.memory request.now entries free.entry }
     ensures stays { search.new ≡ search.old }
     ensures least { IsTrueLeast free.entry.memory request.now free.entry.entry result }
 {

@@ -1,5 +1,5 @@
 //! The best start in one conventional entry of a memory map.
-ghost use Rattle.std.specs.Prelude.{◌≡◌, ◌↔◌, ◌+◌, ◌≤◌, Some, false, length, Contains, IsTrue};
+ghost use Rattle.std.specs.Prelude.{◌≡◌, ◌↔◌, ◌+◌, ◌≤◌, Some, false, Contains, IsTrue};
 ghost use Rattle.std.specs.Option.{option_map};
 ghost use Rattle.page_ranges.specs.MemoryTypes.{conventional, is_specific_purpose};
 ghost use Rattle.page_ranges.specs.Memory.{IsProperMemory};
@@ -8,11 +8,12 @@ ghost use Rattle.descriptor_table.specs.Tables.{entry_of};
 ghost use Rattle.descriptor_table.specs.Wanting.{IsFreeBehind};
 ghost use Rattle.placement_certificate.specs.Certificates.{IsTrueLeast};
 ghost use Rattle.placement_certificate.specs.Placement.{IsProperRequest};
+ghost use Rattle.placement_certificate.specs.Search.{IsProperSearch};
 ghost use Rattle.placement_certificate.specs.Sides.{IsSavedAt};
 ghost use Rattle.placement_chooser.specs.Starts.{IsOfferIn, IsWantedFor, OffersBest};
 
-use descriptor_table::{FreeRun, RunCursor, Wanted};
-use page_ranges::{Descriptor, MemoryType, Run, is_specific_purpose};
+use descriptor_table::{FreeRun, RunCursor, Wanted, block_of};
+use page_ranges::{MemoryType, Run, is_specific_purpose};
 use placement_certificate::{EntrySearch, PricedStart, Request};
 use std::alloc::Allocator;
 
@@ -45,18 +46,6 @@ fn edge_saves(mtype: MemoryType, outside: Option<&Run>, inside: &Run) -> u64
     }
 }
 
-// A run as a block.
-fn block_of(run: &Run) -> Descriptor
-    ensures { result ≡ entry_of run.now }
-{
-    Descriptor {
-        mtype: run.mtype,
-        first: run.range.first,
-        pages: run.range.pages,
-        attributes: run.attributes,
-    }
-}
-
 /// The best start in an entry, with its price, whatever lies beside it.
 #[inline(never)]
 pub(crate) fn least_beside<B: Allocator + Copy>(
@@ -66,16 +55,12 @@ pub(crate) fn least_beside<B: Allocator + Copy>(
     free: FreeRun<'_, B>,
 ) -> Option<PricedStart>
     requires memory { search.old ≡ free.memory }
-    requires proper { IsProperMemory free.memory }
-    requires good { IsProperRequest request.now }
-    requires entries { entries ≡ length (memory_map free.memory) }
-    requires entry { Contains (memory_map free.memory) free.entry }
-    requires free { free.entry.mtype ≡ conventional }
+    requires search { IsProperSearch free.memory request.now entries free.entry }
     ensures stays { search.new ≡ search.old }
     ensures least { IsTrueLeast free.entry.memory request.now free.entry.entry result }
 {
-    let below = free.below().map(block_of);
-    let above = free.above().map(block_of);
+    let below = free.below().map(|run| block_of(run));
+    let above = free.above().map(|run| block_of(run));
     let entry = block_of(free.run());
     search.least_beside(request, entries, &entry, below, above)
 }
@@ -89,11 +74,7 @@ fn offer_beside<B: Allocator + Copy>(
     free: FreeRun<'_, B>,
 ) -> Offer
     requires memory { search.old ≡ free.memory }
-    requires proper { IsProperMemory free.memory }
-    requires good { IsProperRequest request.now }
-    requires entries { entries ≡ length (memory_map free.memory) }
-    requires entry { Contains (memory_map free.memory) free.entry }
-    requires free { free.entry.mtype ≡ conventional }
+    requires search { IsProperSearch free.memory request.now entries free.entry }
     ensures stays { search.new ≡ search.old }
     ensures offer { IsOfferIn free.entry.memory request.now free.entry.entry result }
 {
@@ -170,11 +151,7 @@ pub(crate) fn offer_in<B: Allocator + Copy>(
     free: FreeRun<'_, B>,
 ) -> Offer
     requires memory { search.old ≡ free.memory }
-    requires proper { IsProperMemory free.memory }
-    requires good { IsProperRequest request.now }
-    requires entries { entries ≡ length (memory_map free.memory) }
-    requires entry { Contains (memory_map free.memory) free.entry }
-    requires free { free.entry.mtype ≡ conventional }
+    requires search { IsProperSearch free.memory request.now entries free.entry }
     requires wanted { IsWantedFor request.now wanted.now }
     ensures stays { search.new ≡ search.old }
     ensures offer { OffersBest free.entry.memory request.now wanted.now free.entry.entry result }

@@ -1,6 +1,6 @@
 -- An interface that is freed, and what stays of its handle.
 use Rattle.std.proofs.Common.{◌≡◌, ℕ, ◌+◌, ◌≤◌, ◌&&◌, ◌++◌, append-nil, Bool, not, true, false, List, [], ◌∷◌, Option, Some, None, is_some, Result, Ok, Err, IfOk, OnOk, OnErr, Vec, inl, inr, refl, sym, ap, subst, ◌∙◌, arith}
-use Rattle.std.specs.List.{list_any, list_all}
+use Rattle.std.specs.List.{filter, list_any, list_all}
 use Rattle.std.specs.Option.{option_map}
 use Rattle.std.proofs.lemmas.Bool.{cases_Bool, and_parts}
 use Rattle.page_ranges.specs.declared.statuses.Status.{Status}
@@ -12,8 +12,8 @@ use Rattle.guid_handles.proofs.Indexed.{at_handle}
 use Rattle.open_agents.specs.declared.items.Decision.TheVariants.{StopFirst}
 use Rattle.open_agents.specs.declared.items.Manager.{Manager}
 use Rattle.open_agents.specs.declared.items.OpenRecord.{OpenRecord}
-use Rattle.open_agents.specs.declared.items.OpenItem.{OpenItem}
-use Rattle.open_agents.specs.OpenItems.{is_kept, is_open_on, items_on, keeps, names, with_item, without_items}
+use Rattle.open_agents.specs.Blocks.{is_near}
+use Rattle.open_agents.specs.OpenItems.{is_keeping, is_kept, is_open_on, names, with_item, without_items}
 use Rattle.protocol_notify.specs.Registrations.{events_for}
 use Rattle.driver_connect.specs.declared.stopping.Opener.{Opener}
 use Rattle.driver_connect.specs.Drivers.{Meaning}
@@ -24,12 +24,12 @@ use Rattle.driver_connect.specs.Readiness.{is_any_ready}
 use Rattle.driver_connect.proofs.Beside.{none_of}
 use Rattle.driver_connect.proofs.Counts.{connect_counts}
 use Rattle.driver_connect.proofs.Idle.{idle_connect}
-use Rattle.driver_connect.proofs.PlannedStops.{added_first, kept_left, opener_spared}
+use Rattle.driver_connect.proofs.PlannedStops.{added_first, kept_near, opener_spared}
 use Rattle.driver_connect.proofs.Ready.{ready_start}
 use Rattle.protocol_services.specs.Lists.{Lists, IsRaised}
 use Rattle.protocol_services.specs.Opening.{OpensAs, opened_value}
 use Rattle.protocol_services.specs.Stopping.{can_stop}
-use Rattle.protocol_services.specs.Removing.{Reinstalls, Replaces, can_be_freed, drivers_among, drivers_on, freed, is_value, once_freed, reconnected, removal_refusal, replaced, uninstalled, with_progress, without_dead}
+use Rattle.protocol_services.specs.Removing.{Reinstalls, Replaces, can_be_freed, drivers_on, freed, is_value, once_freed, reconnected, removal_refusal, replaced, uninstalled, with_progress, without_dead}
 use Rattle.protocol_services.proofs.OpenCounts.{CountUpTo, one_higher, opened_counts}
 use Rattle.protocol_services.proofs.Raised.{all_left, stays_raised}
 
@@ -89,24 +89,14 @@ opened_stopped_raised l new plan handle guid agent controller a added o e = rw e
 -- ---- an interface that is freed
 
 -- Where the drivers that have an interface open can be stopped, it can be freed unless an item that they leave keeps it.
-pub free_answer : (ds : List Meaning) (l : Lists) (handle : ℕ) (guid : List ℕ) (plan : PlannedStop) (items : List OpenItem) (can kept : Bool)
-    → items ≡ items_on l.opens handle guid → plan ≡ planned_stop l.handles l.opens (drivers_among items)
+pub free_answer : (ds : List Meaning) (l : Lists) (handle : ℕ) (guid : List ℕ) (plan : PlannedStop) (near : List OpenRecord) (can kept : Bool)
+    → near ≡ filter (is_near handle) l.opens → plan ≡ planned_stop l.handles l.opens (drivers_on l.opens handle guid)
     → can ≡ can_be_stopped ds l.handles l.opens plan.pairs handle None → can ≡ true
-    → kept ≡ list_any (λ i. keeps i.attributes && not (takes_item plan handle i.agent i.controller)) items → can_be_freed ds l handle guid ≡ not kept
-free_answer ds l handle guid plan items can kept i p asked sure k =
-    let whole : plan ≡ planned_stop l.handles l.opens (drivers_on l.opens handle guid) = rw i at p in
-    let left : kept ≡ is_kept (once_freed handle guid l).opens handle guid = rw i at k ∙ kept_left plan handle guid l.opens ∙ rw whole refl in
-    let stops : can_stop ds l (drivers_on l.opens handle guid) handle None ≡ true = ap (λ (q : PlannedStop). can_be_stopped ds l.handles l.opens q.pairs handle None) (sym whole) ∙ sym asked ∙ sure in
+    → kept ≡ list_any (λ o. is_keeping handle guid o && not (takes_item plan handle o.agent o.controller)) near → can_be_freed ds l handle guid ≡ not kept
+free_answer ds l handle guid plan near can kept i p asked sure k =
+    let left : kept ≡ is_kept (once_freed handle guid l).opens handle guid = rw i at k ∙ kept_near plan handle guid l.opens ∙ rw p refl in
+    let stops : can_stop ds l (drivers_on l.opens handle guid) handle None ≡ true = ap (λ (q : PlannedStop). can_be_stopped ds l.handles l.opens q.pairs handle None) (sym p) ∙ sym asked ∙ sure in
     rw stops (ap not (sym left))
-
--- Where they can't be stopped, it can't be freed.
-pub not_freed : (ds : List Meaning) (l : Lists) (handle : ℕ) (guid : List ℕ) (plan : PlannedStop) (items : List OpenItem) (can : Bool)
-    → items ≡ items_on l.opens handle guid → plan ≡ planned_stop l.handles l.opens (drivers_among items)
-    → can ≡ can_be_stopped ds l.handles l.opens plan.pairs handle None → can ≡ false → can_be_freed ds l handle guid ≡ false
-not_freed ds l handle guid plan items can i p asked sure =
-    let whole : plan ≡ planned_stop l.handles l.opens (drivers_on l.opens handle guid) = rw i at p in
-    let stops : can_stop ds l (drivers_on l.opens handle guid) handle None ≡ false = ap (λ (q : PlannedStop). can_be_stopped ds l.handles l.opens q.pairs handle None) (sym whole) ∙ sym asked ∙ sure in
-    rw stops refl
 
 -- what the stop leaves, without the items on the interface
 pub free_leaves : (l : Lists) (handle : ℕ) (guid : List ℕ) (plan : PlannedStop) (t : HandleTable) (opens : List OpenRecord) → plan ≡ planned_stop l.handles l.opens (drivers_on l.opens handle guid)
@@ -264,7 +254,7 @@ replaced_below ds l mid new handle guid value given events m e c r =
 
 pub below_raised : (ds : List Meaning) (l mid new : Lists) (handle : ℕ) (guid : List ℕ) (value : ℕ) (given events : List ℕ) → mid ≡ replaced handle guid value (freed handle guid l)
     → ConnectsBelow (site ds mid.registrations handle) mid.handles mid.opens given events new.handles new.opens → new.registrations ≡ mid.registrations
-    → new.handles.last_number ≤ mid.handles.last_number + 4096 → new.handles.last_stamp ≤ mid.handles.last_stamp + 16384 → IsRaised l new
+    → new.handles.last_number ≤ mid.handles.last_number + 8192 → new.handles.last_stamp ≤ mid.handles.last_stamp + 32768 → IsRaised l new
 below_raised ds l mid new handle guid value given events m c r numbers stamps =
     let part : IsPart l (freed handle guid l) = freed_part l handle guid in
     let number : mid.handles.last_number ≡ l.handles.last_number = ap (λ (x : Lists). x.handles.last_number) m ∙ part.numbers in
@@ -291,7 +281,7 @@ connected_freed ds l new plan handle guid value given events t opens p h o e c r
 pub connected_freed_raised : (ds : List Meaning) (l new : Lists) (plan : PlannedStop) (handle : ℕ) (guid : List ℕ) (value : ℕ) (given events : List ℕ) (t : HandleTable) (opens : List OpenRecord)
     → plan ≡ planned_stop l.handles l.opens (drivers_on l.opens handle guid) → t ≡ without_handles plan.handles l.handles → opens ≡ without_items (is_open_on handle guid) (without_opens plan.handles plan.pairs l.opens)
     → ConnectsBelow (site ds l.registrations handle) (with_value handle guid value t) opens given events new.handles new.opens → new.registrations ≡ l.registrations
-    → new.handles.last_number ≤ t.last_number + 4096 → new.handles.last_stamp ≤ t.last_stamp + 16385 → IsRaised l new
+    → new.handles.last_number ≤ t.last_number + 8192 → new.handles.last_stamp ≤ t.last_stamp + 32769 → IsRaised l new
 connected_freed_raised ds l new plan handle guid value given events t opens p h o c r numbers stamps =
     below_raised ds l (record l { handles = with_value handle guid value t; opens = opens }) new handle guid value given events (replaced_in_place l plan handle guid value t (with_value handle guid value t) opens p h refl o) c r
     numbers (omega (arith, stamps))
@@ -307,7 +297,7 @@ freed_or_not ds l new plan handle guid value given (Err error) t opens p h o e c
 pub freed_raised_or_not : {A : Type 0} {E : Type 0} (ds : List Meaning) (l new : Lists) (plan : PlannedStop) (handle : ℕ) (guid : List ℕ) (value : ℕ) (given : List ℕ) (result : Result (Vec ℕ A) E) (t : HandleTable) (opens : List OpenRecord)
     → plan ≡ planned_stop l.handles l.opens (drivers_on l.opens handle guid) → t ≡ without_handles plan.handles l.handles → opens ≡ without_items (is_open_on handle guid) (without_opens plan.handles plan.pairs l.opens)
     → IfOk result (λ events. ConnectsBelow (site ds l.registrations handle) (with_value handle guid value t) opens given events.items new.handles new.opens) → new.registrations ≡ l.registrations
-    → new.handles.last_number ≤ t.last_number + 4096 → new.handles.last_stamp ≤ t.last_stamp + 16385 → OnOk result (IsRaised l new)
+    → new.handles.last_number ≤ t.last_number + 8192 → new.handles.last_stamp ≤ t.last_stamp + 32769 → OnOk result (IsRaised l new)
 freed_raised_or_not ds l new plan handle guid value given (Ok events) t opens p h o c r numbers stamps = connected_freed_raised ds l new plan handle guid value given events.items t opens p h o c r numbers stamps
 freed_raised_or_not ds l new plan handle guid value given (Err error) t opens p h o c r numbers stamps = tt
 

@@ -16,6 +16,7 @@ pub mod Unopened
 pub mod Signals
 pub mod RemovedMany
 pub mod FreeToGo
+pub mod TwiceNamed
 pub mod DriversNear
 pub mod Lives
 pub mod Decided

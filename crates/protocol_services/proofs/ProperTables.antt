@@ -17,9 +17,10 @@ use Rattle.driver_connect.specs.Starting.{is_child, with_child, with_children}
 use Rattle.protocol_services.specs.ProperLists.{AreApart}
 use Rattle.protocol_services.proofs.NewInterfaces.{next_added}
 
--- a handle table with no GUID twice on a handle
+-- a handle table with no more handles than may be live, and no GUID twice on a handle
 pub record IsProperTable (t : HandleTable) : Type 0 where
   pub table : IsHandleTable t
+  pub limit : length t.handles ≤ max_handles
   pub guids : Ascending AreApart t.interfaces
 
 -- ---- fewer
@@ -52,6 +53,7 @@ filtered_proper p t s =
         limit = omega (arith, s.table.limit, filter_shorter (λ h. p h.number) t.handles);
         on_live = rw e (left_on_live p (numbers t) t.interfaces s.table.on_live);
       };
+      limit = omega (arith, s.limit, filter_shorter (λ h. p h.number) t.handles);
       guids = ascending_filter AreApart (λ i. p i.handle) t.interfaces s.guids;
     }
 
@@ -63,6 +65,7 @@ fewer_proper p t s = record {
     limit = s.table.limit;
     on_live = all_filter (λ i. list_any (λ m. nat_eq m i.handle) (numbers t) ≡ true) p t.interfaces s.table.on_live;
   };
+  limit = s.limit;
   guids = ascending_filter AreApart p t.interfaces s.guids;
 }
 
@@ -97,6 +100,7 @@ with_value_proper n guid value t s = record {
     on_live = all_mapped (λ i. list_any (λ m. nat_eq m i.handle) (numbers t) ≡ true) (λ i. list_any (λ m. nat_eq m i.handle) (numbers t) ≡ true) (restamped n guid value (t.last_stamp + 1))
         (λ i h. rw (restamped_handle n guid value (t.last_stamp + 1) i) h) t.interfaces s.table.on_live;
   };
+  limit = s.limit;
   guids = ascending_map AreApart AreApart (restamped n guid value (t.last_stamp + 1)) (restamped_apart n guid value (t.last_stamp + 1)) t.interfaces s.guids;
 }
 
@@ -129,6 +133,7 @@ with_interfaces_proper n pairs t s live absent once = record {
     on_live = all_append (λ i. list_any (λ m. nat_eq m i.handle) (numbers t) ≡ true) t.interfaces (stamped n t.last_stamp pairs) s.table.on_live
         (stamped_on (λ h. list_any (λ m. nat_eq m h) (numbers t)) n t.last_stamp pairs (live_number t n live));
   };
+  limit = s.limit;
   guids = stamped_apart n t.last_stamp pairs t.interfaces s.guids absent once;
 }
 
@@ -149,6 +154,7 @@ with_handle_proper maker t s room =
         limit = rw length-append (omega (arith, room));
         on_live = rw e (with_handle_on_live (t.last_number + 1) (numbers t) t.interfaces s.table.on_live);
       };
+      limit = rw length-append (omega (arith, room));
       guids = s.guids;
     }
 

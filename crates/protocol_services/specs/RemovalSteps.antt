@@ -1,19 +1,13 @@
 -- The steps of a removal: what is stopped to free an interface, and what goes then.
 use Rattle.std.specs.Prelude.{◌≡◌, ℕ, ◌&&◌, not, Bool, List, [], None, IfOk, map, Result, Vec}
-use Rattle.std.specs.List.{list_any}
 use Rattle.page_ranges.specs.declared.statuses.Status.{Status}
 use Rattle.guid_handles.specs.HandleTables.{HandleTable}
-use Rattle.open_agents.specs.declared.items.OpenItem.{OpenItem}
 use Rattle.open_agents.specs.declared.items.OpenRecord.{OpenRecord}
-use Rattle.open_agents.specs.OpenItems.{keeps}
+use Rattle.open_agents.specs.OpenItems.{is_keeping}
 use Rattle.driver_connect.specs.Drivers.{Meaning}
 use Rattle.driver_connect.specs.Stopping.{PlannedStop, planned_stop, takes_item}
 use Rattle.protocol_services.specs.Lists.{Lists}
-use Rattle.protocol_services.specs.Removing.{Frees, Replaces, can_be_freed, drivers_among, drivers_on, freed, replaced, uninstalled, without_opens_on}
-
--- what the stop of the drivers of some items takes out
-abbrev pub stop_among : Lists → List OpenItem → PlannedStop
-stop_among l items = planned_stop l.handles l.opens (drivers_among items)
+use Rattle.protocol_services.specs.Removing.{Frees, Replaces, can_be_freed, drivers_on, freed, replaced, uninstalled, without_opens_on}
 
 -- what the stop takes out that frees an interface
 abbrev pub stop_to_free : Lists → ℕ → List ℕ → PlannedStop
@@ -25,10 +19,10 @@ PlansToFree ds l handle guid result =
     Frees None (can_be_freed ds l handle guid)
     (λ plan. plan ≡ stop_to_free l handle guid) result l l
 
--- a stop leaves one of an interface's items that keeps it
-abbrev pub leaves_keeper : PlannedStop → ℕ → List OpenItem → Bool
-leaves_keeper plan handle items =
-    list_any (λ i. keeps i.attributes && not (takes_item plan handle i.agent i.controller)) items
+-- an item that a stop leaves keeps an interface
+abbrev pub keeps_after : PlannedStop → ℕ → List ℕ → OpenRecord → Bool
+keeps_after plan n guid o =
+    is_keeping n guid o && not (takes_item plan n o.agent o.controller)
 
 -- a handle table and open items as lists with no registrations
 abbrev pub lists_of : HandleTable → List OpenRecord → Lists

@@ -1,20 +1,23 @@
 //! Uninstalling and reinstalling interfaces.
-ghost use Rattle.std.specs.Prelude.{◌≡◌, ◌<◌, ◌^◌, true, map, IfOk, OnOk, OnErr};
+ghost use Rattle.std.specs.Prelude.{◌≡◌, ◌<◌, ◌^◌, true, map, IfOk, IsOk, OnOk, OnErr};
 ghost use Rattle.std.specs.List.{list_any};
 ghost use Rattle.guid_handles.specs.HandleTables.{carries, value_at};
 ghost use Rattle.guid_handles.specs.HandleChanges.{IsHandleTable};
+ghost use Rattle.open_agents.specs.Blocks.{items_near};
 ghost use Rattle.open_agents.specs.OpenItems.{is_open_on, keeps, without_items};
 ghost use Rattle.driver_connect.specs.AfterStop.{opens_left};
 ghost use Rattle.driver_connect.specs.Stopping.{without_handles};
 ghost use Rattle.protocol_notify.specs.Registrations.{events_for};
 ghost use Rattle.protocol_services.specs.Lists.{HasRoom, IsRaised};
 ghost use Rattle.protocol_services.specs.Removing as spec;
-ghost use Rattle.protocol_services.specs.RemovalSteps.{FreesAndReplaces, PlansToFree, TakesOut, freed_and_replaced, leaves_keeper, stop_among, stop_to_free, uninstalled_idle};
+ghost use Rattle.protocol_services.specs.RemovalSteps.{FreesAndReplaces, PlansToFree, TakesOut, freed_and_replaced, keeps_after, stop_to_free, uninstalled_idle};
+ghost use Rattle.protocol_services.specs.RemovingMany.{is_free_to_go};
 
 use crate::protocols::Protocols;
-use driver_connect::{Driver, StopPlan, may_start_after, replace_and_connect};
-use guid_handles::Handles;
-use open_agents::{BY_CHILD_CONTROLLER, EXCLUSIVE, Manager, OpenItem, Opens, Usage, is_for_driver};
+use crate::stops::drivers_near;
+use driver_connect::{Driver, StopPlan, is_ready_after, replace_and_connect};
+use guid_handles::{Handles, is_same_guid};
+use open_agents::{BY_CHILD_CONTROLLER, EXCLUSIVE, Near, OpenRecord, Opens, Usage, item_at};
 use page_ranges::Status;
 use std::alloc::{AllocError, Allocator};
 use uuid::Uuid;
@@ -51,42 +54,46 @@ fn has_value<A: Allocator + Copy>(handles: &Handles<A>, handle: u64, guid: Uuid,
     }
 }
 
-/// The controller and the agent of an item of an interface.
-fn manager_in(item: &OpenItem) -> Manager
-    ensures { result ≡ spec.manager_in item.now }
-{
-    Manager {
-        controller: item.controller,
-        agent: item.agent,
-    }
-}
-
-/// The controllers and the agents of the items that are for a driver.
-fn drivers_among<A: Allocator>(alloc: A, items: &[OpenItem]) -> Result<Vec<Manager, A>, AllocError>
-    ensures { IfOk result (λ v. v.items ≡ spec.drivers_among items.now) }
-{
-    let mut pairs = Vec::new(alloc);
-    for item in items {
-        if is_for_driver(item.attributes) {
-            pairs.push(manager_in(item))?;
-        }
-    }
-    Ok(pairs)
-}
-
-/// Whether an item keeps its interface once a stop is carried out.
-fn is_kept_after<A: Allocator + Copy>(plan: &StopPlan<A>, handle: u64, items: &[OpenItem]) -> bool
-    ensures { result ≡ leaves_keeper plan.now handle items.now }
-{
-    items.iter().any(|i| keeps(i.attributes) && !plan.takes_item(handle, i.agent, i.controller))
-}
-
 /// Whether an open with some attributes keeps its interface: one for a child, or an exclusive one of no
 /// driver.
 fn keeps(attributes: u32) -> bool
     ensures { result ≡ keeps attributes }
 {
     attributes == BY_CHILD_CONTROLLER || attributes == EXCLUSIVE
+}
+
+/// Whether an item keeps an interface once a stop is carried out, which leaves the item.
+fn keeps_after<A: Allocator + Copy>(
+    plan: &StopPlan<A>,
+    o: &OpenRecord,
+    handle: u64,
+    guid: Uuid,
+) -> bool
+    ensures { result ≡ keeps_after plan.now handle guid o.now }
+{
+    o.handle == handle
+        && is_same_guid(&o.guid, &guid)
+        && keeps(o.attributes)
+        && !plan.takes_item(handle, o.agent, o.controller)
+}
+
+/// Whether an item near an interface keeps it once a stop is carried out.
+fn is_kept_after<A: Allocator + Copy>(
+    plan: &StopPlan<A>,
+    near: Near<'_>,
+    handle: u64,
+    guid: Uuid,
+) -> bool
+    ensures { result ≡ list_any (keeps_after plan.now handle guid) (items_near near.entry) }
+{
+    for place in near.places {
+        if let Some(o) = item_at(near.slots, *place) {
+            if keeps_after(plan, o, handle, guid) {
+                return true;
+            }
+        }
+    }
+    false
 }
 
 /// Removes the items that go with the stop that frees an interface, and those that are left on it. This
@@ -158,10 +165,7 @@ impl<A: Allocator + Copy> Protocols<A> {
     ) -> Result<StopPlan<A>, Status>
         ensures { PlansToFree (map D.meaning drivers.now) self.now handle guid result }
     {
-        let Ok(items) = self.opens.items(handle, guid) else {
-            return Err(Status::OutOfResources);
-        };
-        let Ok(plan) = self.plan_among(items.as_slice()) else {
+        let Ok(plan) = self.plan_of_drivers(handle, guid) else {
             return Err(Status::OutOfResources);
         };
         let Ok(can) = plan.can_be_carried_out(
@@ -177,18 +181,18 @@ impl<A: Allocator + Copy> Protocols<A> {
         if !can {
             return Err(Status::AccessDenied);
         }
-        if is_kept_after(&plan, handle, items.as_slice()) {
+        if is_kept_after(&plan, self.opens.near(handle), handle, guid) {
             return Err(Status::AccessDenied);
         }
         Ok(plan)
     }
 
-    /// What the stop of the drivers of some items removes.
-    pub(crate) fn plan_among(&self, items: &[OpenItem]) -> Result<StopPlan<A>, AllocError>
-        ensures { IfOk result (λ plan. plan ≡ stop_among self.now items.now) }
+    /// What a stop of the drivers that have an interface open removes.
+    fn plan_of_drivers(&self, handle: u64, guid: Uuid) -> Result<StopPlan<A>, AllocError>
+        ensures { IfOk result (λ plan. plan ≡ stop_to_free self.now handle guid) }
     {
-        let pairs = drivers_among(self.alloc, items)?;
-        StopPlan::new(self.alloc, &self.handles, &self.opens, pairs.as_slice())
+        let pairs = drivers_near(self.alloc, self.opens.near(handle), handle, guid)?;
+        StopPlan::from_vec(self.alloc, &self.handles, &self.opens, pairs)
     }
 
     /// UninstallProtocolInterface: uninstalls the interface of a GUID with a value; a handle goes with its last
@@ -196,7 +200,7 @@ impl<A: Allocator + Copy> Protocols<A> {
     ///
     /// INVALID_PARAMETER: the handle is not live. NOT_FOUND: it does not carry the GUID with the value.
     /// ACCESS_DENIED: a driver can't be stopped, or it is open for a child or exclusively. OUT_OF_RESOURCES:
-    /// memory ran out.
+    /// memory ran out. Where no driver has it open, this takes no memory.
     pub fn uninstall<D: Driver>(
         &mut self,
         drivers: &[D],
@@ -206,6 +210,7 @@ impl<A: Allocator + Copy> Protocols<A> {
     ) -> Result<(), Status>
         ensures uninstalls { spec.Uninstalls
             (map D.meaning drivers.now) self.old handle guid value result self.new }
+        ensures free { is_free_to_go self.old handle (guid, value) ≡ true → IsOk result }
         ensures raised { IsRaised self.old self.new }
     {
         if let Some(status) = removal_refusal(&self.handles, handle, guid, value) {
@@ -289,7 +294,7 @@ impl<A: Allocator + Copy> Protocols<A> {
         ensures err { OnErr result (self.new ≡ self.old) }
         ensures raised { IsRaised self.old self.new }
     {
-        if may_start_after(
+        if is_ready_after(
             self.alloc,
             plan,
             &self.handles,

@@ -1,5 +1,5 @@
 //! Uninstalling several interfaces, all of them or none.
-ghost use Rattle.std.specs.Prelude.{◌≡◌, ◌≤◌, ◌∷◌, [], true, length, map};
+ghost use Rattle.std.specs.Prelude.{◌≡◌, ◌≤◌, ◌∷◌, [], true, length, map, IsOk};
 ghost use Rattle.std.specs.List.{list_all};
 ghost use Rattle.protocol_services.specs.Lists.{IsRaised};
 ghost use Rattle.protocol_services.specs.RemovingMany as spec;
@@ -17,7 +17,8 @@ impl<A: Allocator + Copy> Protocols<A> {
     /// other as [`Protocols::uninstall`] does: all of them, or none.
     ///
     /// INVALID_PARAMETER: there are more than 16, or one of them can't be uninstalled at its turn. OUT_OF_RESOURCES:
-    /// memory ran out. Where no driver has one of them open and none is refused, this takes no memory.
+    /// memory ran out. Where a GUID is named twice, or no driver has one of them open and none is refused,
+    /// this takes no memory.
     pub fn uninstall_many<D: Driver>(
         &mut self,
         drivers: &[D],
@@ -26,15 +27,21 @@ impl<A: Allocator + Copy> Protocols<A> {
     ) -> Result<(), Status>
         ensures uninstalls { spec.UninstallsMany
             (map D.meaning drivers.now) self.old handle pairs.now result self.new }
+        ensures free { length pairs.now ≤ spec.max_uninstalled
+            → spec.are_free_to_go self.old handle pairs.now ≡ true → IsOk result }
         ensures raised { IsRaised self.old self.new }
     {
         if pairs.len() > MAX_INSTALLED {
             return Err(Status::InvalidParameter);
         }
+        // Of two with one GUID the second is not there any more at its turn.
+        if has_guid_twice(pairs) {
+            return Err(Status::InvalidParameter);
+        }
         if let [pair] = pairs {
             return self.uninstall_one(drivers, handle, pair);
         }
-        if self.are_free_to_go(handle, pairs) {
+        if self.is_each_free_to_go(handle, pairs) {
             self.take_each_out(handle, pairs);
             return Ok(());
         }
@@ -50,6 +57,7 @@ impl<A: Allocator + Copy> Protocols<A> {
     ) -> Result<(), Status>
         ensures uninstalls { spec.UninstallsMany
             (map D.meaning drivers.now) self.old handle (pair.now ∷ []) result self.new }
+        ensures free { spec.is_free_to_go self.old handle pair.now ≡ true → IsOk result }
         ensures raised { IsRaised self.old self.new }
     {
         match self.uninstall(drivers, handle, pair.0, pair.1) {
@@ -58,18 +66,8 @@ impl<A: Allocator + Copy> Protocols<A> {
         }
     }
 
-    /// Whether interfaces can be uninstalled without a stop: none is named twice, and each is there with its value,
-    /// open by no driver and kept by no item.
-    fn are_free_to_go(&self, handle: u64, pairs: &[(Uuid, u64)]) -> bool
-        ensures { result ≡ spec.are_free_to_go self.now handle pairs.now }
-    {
-        if has_guid_twice(pairs) {
-            return false;
-        }
-        self.is_each_free_to_go(handle, pairs)
-    }
-
-    /// Whether each of some interfaces can be uninstalled without a stop.
+    /// Whether each of some interfaces can be uninstalled without a stop: it is there with its value, open by no
+    /// driver and kept by no item.
     fn is_each_free_to_go(&self, handle: u64, pairs: &[(Uuid, u64)]) -> bool
         ensures { result ≡ list_all (spec.is_free_to_go self.now handle) pairs.now }
     {
@@ -87,7 +85,7 @@ impl<A: Allocator + Copy> Protocols<A> {
         !usage.is_driven && !usage.is_kept
     }
 
-    /// Uninstalls interfaces that are free to go. This takes no memory.
+    /// Uninstalls interfaces that are free to go, of different GUIDs. This takes no memory.
     fn take_each_out(&mut self, handle: u64, pairs: &[(Uuid, u64)])
         requires { spec.are_free_to_go self.old handle pairs.now ≡ true }
         ensures { spec.AllGo self.old handle pairs.now self.new }

@@ -7,6 +7,7 @@ ghost use Rattle.protocol_services.specs.Searches.{FindsHandles, LocatesHandles,
 
 use crate::protocols::Protocols;
 use boot_calls::{HANDLE_SIZE, LocateReply};
+use guid_handles::is_same_guid;
 use page_ranges::Status;
 use std::alloc::{AllocError, Allocator};
 use uuid::Uuid;
@@ -88,7 +89,7 @@ impl<A: Allocator + Copy> Protocols<A> {
             return self.lowest_value(guid);
         }
         match self.registrations.guid_of(key) {
-            Some(given) if given == guid => self.next_value(guid, key),
+            Some(given) if is_same_guid(&given, &guid) => self.next_value(guid, key),
             _ => Err(Status::InvalidParameter),
         }
     }

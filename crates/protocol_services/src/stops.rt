@@ -21,7 +21,7 @@ fn is_driving(o: &OpenRecord, handle: u64, guid: Uuid) -> bool
 }
 
 /// The managers that have an interface open, by the items near it.
-fn drivers_near<A: Allocator>(
+pub(crate) fn drivers_near<A: Allocator>(
     alloc: A,
     near: Near<'_>,
     handle: u64,

@@ -18,8 +18,8 @@ returns-in-Ok-true-clause-stamps g c =
     let a = rw c.take-connecting.ensures at c.in-Ok-true.ensures.grows in
     stamps_rise c.args.handles.now c.put_in_place.new.handles (rw c.put_in_place.ensures.handles a) c.put_in_place.ensures.limit
 
-pub take_back-why-requires-clause-older : goal.take_back-why-requires-clause-older
-take_back-why-requires-clause-older g c =
+pub take_back-requires-clause-older : goal.take_back-requires-clause-older
+take_back-requires-clause-older g c =
     let m = rw c.take-connecting.ensures at c.connect_levels.ensures.goes_on in
     rw (c.last_number-number.ensures, c.last_stamp-stamp.ensures.stamp)
     (those_older c.args.handles.now c.connect_levels.new.connecting.handles c.all-numbers.ensures.proper m.handles (rw c.last_stamp-stamp.ensures.stamp at c.last_stamp-stamp.ensures.latest))
@@ -57,6 +57,6 @@ pub returns-in-Err-clause-connects : goal.returns-in-Err-clause-connects
 returns-in-Err-clause-connects g c =
     let m = rw c.take-connecting.ensures at c.connect_levels.ensures.goes_on in (
       c.requires.valid,
-      c.take_back-why.ensures.handles ∙ rw (c.last_number-number.ensures, c.last_stamp-stamp.ensures.stamp) (made_back c.args.handles.now c.connect_levels.new.connecting.handles c.all-numbers.ensures.proper m.handles),
-      c.take_back-why.ensures.opens ∙ rw c.len-items.ensures.count (opened_back c.args.opens.now c.connect_levels.new.connecting.opens m.opens),
+      c.take_back.ensures.handles ∙ rw (c.last_number-number.ensures, c.last_stamp-stamp.ensures.stamp) (made_back c.args.handles.now c.connect_levels.new.connecting.handles c.all-numbers.ensures.proper m.handles),
+      c.take_back.ensures.opens ∙ rw c.len-items.ensures.count (opened_back c.args.opens.now c.connect_levels.new.connecting.opens m.opens),
     )

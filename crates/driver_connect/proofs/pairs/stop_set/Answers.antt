@@ -3,9 +3,9 @@ use Rattle.driver_connect.proofs.StopSets.{fewer_items, more_rounds}
 use Rattle.driver_connect.proofs.pairs.stop_set.Goals as goal
 
 pub returns : goal.returns
-returns g c =
+returns g c = λ pairs e.
     let t = c.args.handles.now in
     let opens = c.args.opens.now in
-    let begun = rw (c.in_ok-add_pairs.ensures, c.new-set.ensures) at c.in_ok-add_rounds.ensures in
+    let begun = rw e at c.in_ok-add_rounds.ensures in
     let bound : length opens ≤ length c.slots.result.now = rw (← c.slots.ensures) (fewer_items c.slots.result.now) in
-    begun ∙ more_rounds (length c.all.result.now + length c.slots.result.now) t opens c.args.pairs.now (omega (arith, bound, c.all.ensures.count))
+    begun ∙ more_rounds (length c.all.result.now + length c.slots.result.now) t opens pairs (omega (arith, bound, c.all.ensures.count))

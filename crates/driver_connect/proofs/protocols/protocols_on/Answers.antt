@@ -1,20 +1,7 @@
-use Rattle.std.proofs.Common.{add-one, ◌≡◌, ◌∙◌, ◌∷◌, [], ℕ, zero, suc, List, Some, None, drop, refl, sym, ap, append_assoc}
-use Rattle.std.specs.List.{slice_get}
-use Rattle.std.proofs.lemmas.Option.{same_Some}
+use Rattle.std.proofs.Common.{add-one, ◌∙◌, sym, append_assoc}
+use Rattle.driver_connect.proofs.Slots.{slot_next, no_slot}
 use Rattle.driver_connect.proofs.protocols.protocols_on.Goals as goal
 use Rattle.driver_connect.proofs.protocols.protocols_on.Goals.{in-Some+in_ok-push, in_default}
-
-slot_next : {X : Type 0} (xs : List X) (k : ℕ) (x : X) → slice_get xs k ≡ Some x → drop k xs ≡ x ∷ drop (suc k) xs
-slot_next [] zero x e = absurd cc
-slot_next [] (suc k) x e = absurd cc
-slot_next (y ∷ ys) zero x e = ap (λ z. z ∷ ys) (same_Some y x e)
-slot_next (y ∷ ys) (suc k) x e = slot_next ys k x e
-
-no_slot : {X : Type 0} (xs : List X) (k : ℕ) → slice_get xs k ≡ None → drop k xs ≡ drop (suc k) xs
-no_slot [] zero e = refl
-no_slot [] (suc k) e = refl
-no_slot (y ∷ ys) zero e = absurd cc
-no_slot (y ∷ ys) (suc k) e = no_slot ys k e
 
 pub loop-at-preserved : goal.loop-at-preserved
 loop-at-preserved g c =

@@ -1,9 +1,10 @@
 use Rattle.std.proofs.Common.{◌≡◌, ◌++◌, map, drop}
-use Rattle.driver_connect.specs.Stopping.{without_opens}
-use Rattle.driver_connect.specs.Readiness.{protocol_after}
+use Rattle.guid_handles.specs.HandleTables.{interfaces_on}
+use Rattle.driver_connect.specs.AfterStop.{shown_after}
+use Rattle.driver_connect.specs.Drivers.{protocol_view, protocols_on}
 use Rattle.driver_connect.proofs.readiness.protocols_after.Given as goal
 
-abbrev pub invariant-loop-protocol : goal.invariant-loop-protocol
-invariant-loop-protocol g l =
-    l.shown.items ++ map (protocol_after (without_opens l.plan.handles l.plan.pairs l.opens) l.handle l.guid l.value) (drop l.protocol-index l.protocols)
-    ≡ map (protocol_after (without_opens l.plan.handles l.plan.pairs l.opens) l.handle l.guid l.value) l.protocols
+abbrev pub invariant-loop-at : goal.invariant-loop-at
+invariant-loop-at g l =
+    l.shown.items ++ map (shown_after l.plan l.opens l.handle l.guid l.value) (map (protocol_view l.opens) (drop l.at (interfaces_on l.handles l.handle)))
+    ≡ map (shown_after l.plan l.opens l.handle l.guid l.value) (protocols_on l.handles l.opens l.handle)

@@ -1,5 +1,4 @@
-use Rattle.std.proofs.Common.{map, sym, ap, ◌∙◌}
-use Rattle.driver_connect.specs.AfterStop.{shown_after}
+use Rattle.std.proofs.Common.{sym, ◌∙◌}
 use Rattle.driver_connect.proofs.AfterStops.{none_left, shown_stays}
 use Rattle.driver_connect.proofs.readiness.protocols_left.Goals as goal
 
@@ -9,5 +8,4 @@ returns-then-takes_handle g c =
 
 pub returns : goal.returns
 returns g c =
-    rw (ap (map (shown_after c.args.plan.now c.args.opens.now c.args.handle c.args.guid c.args.value)) (c.as_slice.ensures.value ∙ c.in_ok-protocols.ensures)
-    ∙ shown_stays c.args.plan.now c.args.handles.now c.args.opens.now c.args.handle c.args.guid c.args.value (sym c.takes_handle.ensures ∙ c.if-takes_handle.false)) at c.protocols_after.ensures
+    rw (shown_stays c.args.plan.now c.args.handles.now c.args.opens.now c.args.handle c.args.guid c.args.value (sym c.takes_handle.ensures ∙ c.if-takes_handle.false)) at c.protocols_after.ensures

@@ -59,8 +59,8 @@ loop-run-preserved c =
     let whole = whole_more_apart begun rs k r (omega arith) c.run-item.is apart in
     record {
       used = omega (arith, i.used, ap length whole, length-append ds (last_entry begun (take k rs) ∷ []));
-      entry = c.entry_of-entry.ensures ∙ sym (last_more_apart begun rs k r (omega arith) c.run-item.is apart);
-      among = subst IsAmongPages (sym c.entry_of-entry.ensures) (among_apart rs k r (omega arith) c.run-item.is c.requires.runs c.requires.ends);
+      entry = c.block_of-entry.ensures ∙ sym (last_more_apart begun rs k r (omega arith) c.run-item.is apart);
+      among = subst IsAmongPages (sym c.block_of-entry.ensures) (among_apart rs k r (omega arith) c.run-item.is c.requires.runs c.requires.ends);
       written =
           put_from c.loop-run.buffer (record_of d) c.write_record.new.bytes used 48 c.write_record.ensures
           ∙ field_behind old c.loop-run.buffer (take n old ++ records ds) (record_of d) used 48 i.written (front_length old ds n used i.used (omega (arith, c.requires.room)))

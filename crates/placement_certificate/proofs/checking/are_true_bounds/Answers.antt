@@ -13,14 +13,17 @@ use Rattle.placement_certificate.proofs.OneCertificate.{same_bound}
 use Rattle.placement_certificate.proofs.checking.are_true_bounds.Goals as goal
 use Rattle.placement_certificate.proofs.checking.are_true_bounds.Goals.{then-eq+else-not-is_at, else-eq}
 
-pub least_in-requires-clause-proper : goal.least_in-requires-clause-proper
-least_in-requires-clause-proper c = rw c.loop-entry.invariant.stays (memory_of-proper c.args.map.now c.requires.map)
-
-pub least_in-requires-clause-entries : goal.least_in-requires-clause-entries
-least_in-requires-clause-entries c = rw c.loop-entry.invariant.stays (sym (ap length (map_of_memory_of c.args.map.now c.requires.map)))
-
-pub least_in-requires-clause-entry : goal.least_in-requires-clause-entry
-least_in-requires-clause-entry c = rw c.loop-entry.invariant.stays (in_map c.args.map.now c.entry-item.result c.requires.map (c.loop-entry.entry-index, c.loop-entry-test.true, sym c.entry-item.is))
+pub least_in-requires : goal.least_in-requires
+least_in-requires c =
+    let ds = c.args.map.now in
+    let e = c.entry-item.result in
+    rw c.loop-entry.invariant.stays (record {
+      proper = memory_of-proper ds c.requires.map;
+      good = c.requires.good;
+      entries = sym (ap length (map_of_memory_of ds c.requires.map));
+      entry = in_map ds e c.requires.map (c.loop-entry.entry-index, c.loop-entry-test.true, sym c.entry-item.is);
+      free = search rules;
+    })
 
 pub returns-then-not-is_at : goal.returns-then-not-is_at
 returns-then-not-is_at c =

@@ -1,10 +1,8 @@
 use Rattle.std.proofs.Common.{◌≡◌, ◌∷◌, [], ◌++◌, length, refl, sym, ap, subst, ◌∙◌, append_assoc, rules, arith}
-use Rattle.std.specs.Prelude.{Contains}
 use Rattle.page_ranges.specs.declared.ranges.Descriptor.{Descriptor}
-use Rattle.page_ranges.specs.MemoryMap.{memory_map}
 use Rattle.placement_certificate.specs.declared.certificates.Bound.{Bound}
 use Rattle.placement_certificate.specs.Certificates.{IsTrueBound, IsTrueLeast, conventional_entries}
-use Rattle.placement_certificate.specs.Search.{IsBestOf}
+use Rattle.placement_certificate.specs.Search.{IsBestOf, IsProperSearch}
 use Rattle.placement_certificate.proofs.BestBounds.{no_bound}
 use Rattle.placement_certificate.proofs.Decided.{best_is}
 use Rattle.placement_certificate.proofs.Tries.{bound_more}
@@ -45,21 +43,20 @@ loop-leaf-preserved g c =
       room = omega (arith, i.room, ap (λ es. length (es ++ rest)) none);
     }
 
-pub least_in-least-requires-clause-entry : goal.least_in-least-requires-clause-entry
-least_in-least-requires-clause-entry g c =
+pub least_in-least-requires-clause-search : goal.least_in-least-requires-clause-search
+least_in-least-requires-clause-search g c =
     let i = c.loop-free.invariant in
     let e = c.in-Some-next_entry.free.entry in
     let rest = c.next_leaf.new.self.entries in
     let next = c.in-Some-next_entry.ensures.next in
-    subst (λ n. Contains (memory_map n) e) (sym (next.0 ∙ i.memory)) (first_left c.args.table.now.pages i.bounds.0 (c.loop-free.leaf.entries ++ rest) (c.next_entry.new.self.entries ++ rest) e i.bounds.1 (ap (λ es. es ++ rest) next.1)).0
-
-pub least_in-least-requires-clause-free : goal.least_in-least-requires-clause-free
-least_in-least-requires-clause-free g c =
-    let i = c.loop-free.invariant in
-    let e = c.in-Some-next_entry.free.entry in
-    let rest = c.next_leaf.new.self.entries in
-    let next = c.in-Some-next_entry.ensures.next in
-    (first_left c.args.table.now.pages i.bounds.0 (c.loop-free.leaf.entries ++ rest) (c.next_entry.new.self.entries ++ rest) e i.bounds.1 (ap (λ es. es ++ rest) next.1)).1
+    let first = first_left c.args.table.now.pages i.bounds.0 (c.loop-free.leaf.entries ++ rest) (c.next_entry.new.self.entries ++ rest) e i.bounds.1 (ap (λ es. es ++ rest) next.1) in
+    subst (λ m. IsProperSearch m c.args.request.now c.descriptors-entries.result e) (sym (next.0 ∙ i.memory)) (record {
+      proper = c.descriptors-entries.ensures.proper;
+      good = c.requires;
+      entries = c.descriptors-entries.ensures.count;
+      entry = first.0;
+      free = first.1;
+    })
 
 pub loop-free-preserved : goal.loop-free-preserved
 loop-free-preserved g c =

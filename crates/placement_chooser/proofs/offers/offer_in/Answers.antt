@@ -16,7 +16,7 @@ returns-then-run-request-2-clause-offer g c =
 pub returns-then-is_specific_purpose-clause-offer : goal.returns-then-is_specific_purpose-clause-offer
 returns-then-is_specific_purpose-clause-offer g c =
     let special = ap (λ (d : Descriptor). is_specific_purpose d.attributes) (sym c.run-run.ensures) ∙ sym c.is_specific_purpose.ensures ∙ c.if-is_specific_purpose.true in
-    inl (None, none_permitted c.args.free.memory c.args.request.now c.args.free.entry c.requires.proper c.requires.good c.requires.entry special, refl)
+    inl (None, none_permitted c.args.free.memory c.args.request.now c.args.free.entry c.requires.search.proper c.requires.search.good c.requires.search.entry special, refl)
 
 pub offer_alone-requires-clause-behind : goal.offer_alone-requires-clause-behind
 offer_alone-requires-clause-behind g c = λ k. true≢false (sym (c.goes_on.ensures.1 k) ∙ c.if-goes_on.false)

@@ -1,8 +1,7 @@
 use Rattle.std.proofs.Common.{◌++◌, sym, refl, subst, ap, ◌∙◌, append_assoc, append-nil, arith}
-use Rattle.std.specs.Prelude.{Contains}
 use Rattle.std.specs.List.{AllByRecursion}
-use Rattle.page_ranges.specs.MemoryMap.{memory_map}
 use Rattle.descriptor_table.specs.Wanting.{IsOfNoUse}
+use Rattle.placement_certificate.specs.Search.{IsProperSearch}
 use Rattle.placement_chooser.specs.Starts.{OffersBest}
 use Rattle.placement_chooser.proofs.BestSoFar.{IsBestOffer, better_offer, kept_offer, last_entry, last_left, no_offer, none_done, offer_is_best, passed_offer}
 use Rattle.placement_chooser.proofs.starts.best_start.Goals as goal
@@ -37,20 +36,21 @@ loop-leaf-preserved g c =
       stays = c.loop-free.invariant.stays;
     }
 
-pub offer_in-offer-requires-clause-entry : goal.offer_in-offer-requires-clause-entry
-offer_in-offer-requires-clause-entry g c =
+pub offer_in-offer-requires-clause-search : goal.offer_in-offer-requires-clause-search
+offer_in-offer-requires-clause-search g c =
     let e = c.in-Some-next_entry.free.entry in
     let rest = c.next_leaf.new.self.entries in
+    let left = c.next_entry.new.self.entries in
     let next = c.in-Some-next_entry.ensures.next in
-    let parts = last_left rest c.loop-free.leaf.entries c.next_entry.new.self.entries e next.1 in
-    subst (λ n. Contains (memory_map n) e) (sym (next.0 ∙ c.loop-free.invariant.memory)) (last_entry c.args.table.now.pages c.args.request.now c.descriptors-entries.ensures.proper c.requires c.loop-free.best c.loop-free.wanted (rest ++ c.loop-free.leaf.entries) c.loop-free.invariant.best (rest ++ c.next_entry.new.self.entries) e parts).0
-
-pub offer_in-offer-requires-clause-free : goal.offer_in-offer-requires-clause-free
-offer_in-offer-requires-clause-free g c =
-    let e = c.in-Some-next_entry.free.entry in
-    let rest = c.next_leaf.new.self.entries in
-    let parts = last_left rest c.loop-free.leaf.entries c.next_entry.new.self.entries e c.in-Some-next_entry.ensures.next.1 in
-    (last_entry c.args.table.now.pages c.args.request.now c.descriptors-entries.ensures.proper c.requires c.loop-free.best c.loop-free.wanted (rest ++ c.loop-free.leaf.entries) c.loop-free.invariant.best (rest ++ c.next_entry.new.self.entries) e parts).1
+    let proper = c.descriptors-entries.ensures.proper in
+    let last = last_entry c.args.table.now.pages c.args.request.now proper c.requires c.loop-free.best c.loop-free.wanted (rest ++ c.loop-free.leaf.entries) c.loop-free.invariant.best (rest ++ left) e (last_left rest c.loop-free.leaf.entries left e next.1) in
+    subst (λ m. IsProperSearch m c.args.request.now c.descriptors-entries.result e) (sym (next.0 ∙ c.loop-free.invariant.memory)) (record {
+      proper = proper;
+      good = c.requires;
+      entries = c.descriptors-entries.ensures.count;
+      entry = last.0;
+      free = last.1;
+    })
 
 pub loop-free-preserved-then-best-offer : goal.loop-free-preserved-then-best-offer
 loop-free-preserved-then-best-offer g c =

@@ -1,4 +1,4 @@
-use Rattle.std.proofs.Common.{map, refl, arith}
+use Rattle.std.proofs.Common.{map, refl, arith, sym, ◌∙◌}
 use Rattle.std.proofs.lemmas.Result.{IfOk-from_err}
 use Rattle.guid_handles.proofs.SlidRows.{on_err}
 use Rattle.protocol_services.specs.Lists.{Lists}
@@ -10,17 +10,17 @@ returns-else-branch-clause-ok g c =
     let l : Lists = record { handles = c.self.inside.handles; opens = c.self.inside.opens; registrations = c.self.inside.registrations } in
     rw (← c.self.view_is)
     (replaced_where_idle (map g.D.Driver.meaning c.args.drivers.now) l c.replace_in_place.new.self c.args.plan.now c.args.handle c.args.guid c.args.value c.replace_in_place.result (rw (← c.self.view_is) at c.requires.plan)
-    (c.in_ok-may_start_after.ensures c.if-branch.false) (rw (← c.self.view_is) at c.replace_in_place.ensures.lists) c.replace_in_place.ensures.order (rw (← c.self.view_is) at c.replace_in_place.ensures.events))
+    (sym c.in_ok-is_ready_after.ensures ∙ c.if-branch.false) (rw (← c.self.view_is) at c.replace_in_place.ensures.lists) c.replace_in_place.ensures.order (rw (← c.self.view_is) at c.replace_in_place.ensures.events))
 
 pub returns-else-branch-clause-raised : goal.returns-else-branch-clause-raised
 returns-else-branch-clause-raised g c =
     replaced_or_not_raised c.args.self.now c.replace_in_place.new.self c.args.handle c.args.guid c.args.value c.replace_in_place.result c.replace_in_place.ensures.lists c.replace_in_place.ensures.err
 
-pub returns-in_err-may_start_after-clause-ok : goal.returns-in_err-may_start_after-clause-ok
-returns-in_err-may_start_after-clause-ok g c = IfOk-from_err c.from_residual.result _ c.from_residual.ensures.0
+pub returns-in_err-is_ready_after-clause-ok : goal.returns-in_err-is_ready_after-clause-ok
+returns-in_err-is_ready_after-clause-ok g c = IfOk-from_err c.from_residual.result _ c.from_residual.ensures.0
 
-pub returns-in_err-may_start_after-clause-err : goal.returns-in_err-may_start_after-clause-err
-returns-in_err-may_start_after-clause-err g c = on_err c.from_residual.result _ refl
+pub returns-in_err-is_ready_after-clause-err : goal.returns-in_err-is_ready_after-clause-err
+returns-in_err-is_ready_after-clause-err g c = on_err c.from_residual.result _ refl
 
 pub replace_and_connect-requires-clause-plan : goal.replace_and_connect-requires-clause-plan
 replace_and_connect-requires-clause-plan g c = c.requires.plan

@@ -1,8 +1,9 @@
-use Rattle.std.proofs.Common.{◌≡◌, [], map, None, refl, sym, ◌∙◌}
+use Rattle.std.proofs.Common.{◌≡◌, [], true, false, map, None, refl, sym, ◌∙◌}
 use Rattle.protocol_services.specs.Lists.{Lists}
 use Rattle.protocol_services.specs.Removing.{removal_refusal}
 use Rattle.protocol_services.proofs.Raised.{stays_raised}
 use Rattle.protocol_services.proofs.Unopened.{in_place_raised, kept_in_place, uninstalled_once_freed, uninstalled_in_place}
+use Rattle.protocol_services.proofs.FreeToGo.{free_parts}
 use Rattle.protocol_services.proofs.Freed.{draft_carries, free_leaves, none_left, served_carries, uninstalled_raised}
 use Rattle.protocol_services.proofs.protocols.Protocols.uninstall.Goals as goal
 
@@ -63,3 +64,21 @@ pub returns-clause-raised : goal.returns-clause-raised
 returns-clause-raised g c =
     let l : Lists = record { handles = c.self.inside.handles; opens = c.self.inside.opens; registrations = c.self.inside.registrations } in
     rw (c.take_idle_out.ensures, ← c.self.view_is) (in_place_raised l c.args.handle c.args.guid (sym c.usage-is_open.ensures.driven ∙ c.if-is_driven.false))
+
+pub returns-in-Some-clause-free : goal.returns-in-Some-clause-free
+returns-in-Some-clause-free g c = λ f.
+    let l : Lists = record { handles = c.self.inside.handles; opens = c.self.inside.opens; registrations = c.self.inside.registrations } in
+    let free = free_parts l c.args.handle (c.args.guid, c.args.value) (rw (← c.self.view_is) at f) in
+    absurd (let e = c.in-Some.ensures ∙ free.none in cc)
+
+pub returns-in_err-plan-clause-free : goal.returns-in_err-plan-clause-free
+returns-in_err-plan-clause-free g c = λ f.
+    let l : Lists = record { handles = c.self.inside.handles; opens = c.self.inside.opens; registrations = c.self.inside.registrations } in
+    let free = free_parts l c.args.handle (c.args.guid, c.args.value) (rw (← c.self.view_is) at f) in
+    absurd (let e : true ≡ false = sym c.if-is_driven.true ∙ c.usage-is_open.ensures.driven ∙ free.driven in cc)
+
+pub returns-then-is_kept-clause-free : goal.returns-then-is_kept-clause-free
+returns-then-is_kept-clause-free g c = λ f.
+    let l : Lists = record { handles = c.self.inside.handles; opens = c.self.inside.opens; registrations = c.self.inside.registrations } in
+    let free = free_parts l c.args.handle (c.args.guid, c.args.value) (rw (← c.self.view_is) at f) in
+    absurd (let e : true ≡ false = sym c.if-is_kept.true ∙ c.usage-is_open.ensures.kept ∙ free.kept in cc)
