@@ -1,5 +1,5 @@
 //! Pairs of a controller and the agent that manages it, each once.
-ghost use Rattle.std.specs.Prelude.{◌≡◌, ◌<◌, ◌≤◌, ◌++◌, [], ◌∷◌, length, IfOk, OnOk, OnErr, vec_len, vec_capacity};
+ghost use Rattle.std.specs.Prelude.{◌≡◌, ◌<◌, ◌≤◌, ◌++◌, [], ◌∷◌, length, IfOk, OnOk, OnErr};
 ghost use Rattle.driver_connect.specs.PairSets.{AreIndexed, AreMembers, few};
 ghost use Rattle.driver_connect.specs.Stopping as spec;
 
@@ -30,16 +30,6 @@ impl<A: Allocator> Model for PairSet<A> {
     ghost view = { λ s. s.pairs.items };
 
     ghost invariant = { λ s. AreIndexed s.pairs.items s.agents };
-}
-
-/// Appends a pair, for which there is room.
-fn push_with_room<A: Allocator>(pairs: &mut Vec<Manager, A>, pair: Manager)
-    requires { vec_len pairs.old < vec_capacity pairs.old }
-    ensures { pairs.new.items ≡ pairs.old.items ++ pair ∷ [] }
-{
-    if pairs.push(pair).is_err() {
-        unreachable!();
-    }
 }
 
 /// The agents of some pairs, by the controllers.
@@ -155,7 +145,7 @@ impl<A: Allocator + Copy> PairSet<A> {
         self.pairs.reserve(1)?;
         let alloc = *self.pairs.allocator();
         add_member(alloc, &mut self.agents, self.pairs.as_slice(), pair)?;
-        push_with_room(&mut self.pairs, pair);
+        self.pairs.push_reserved(pair);
         Ok(())
     }
 }

@@ -1,5 +1,5 @@
 //! Room in vectors and in a slab.
-ghost use Rattle.std.specs.Prelude.{◌≡◌, ◌<◌, ◌≤◌, [], ◌∷◌, ◌++◌, vec_len, vec_capacity, OnOk, ◌+◌, ◌/◌};
+ghost use Rattle.std.specs.Prelude.{◌≡◌, ◌<◌, ◌≤◌, vec_len, vec_capacity, OnOk, ◌+◌, ◌/◌};
 ghost use Rattle.std.specs.List.{insert};
 ghost use Rattle.slab.specs.Slab.{HasRoomFor};
 
@@ -33,16 +33,6 @@ pub(crate) fn make_slot<T: Drop, A: Allocator>(slab: &mut Slab<T, A>) -> Result<
         return Ok(());
     }
     slab.reserve_exact(items_added(slab.len()))
-}
-
-/// Appends an item, for which there is room.
-pub(crate) fn push_with_room<T: Drop, A: Allocator>(items: &mut Vec<T, A>, item: T)
-    requires { vec_len items.old < vec_capacity items.old }
-    ensures { items.new.items ≡ items.old.items ++ item ∷ [] }
-{
-    if items.push(item).is_err() {
-        unreachable!();
-    }
 }
 
 /// Inserts an item, for which there is room.

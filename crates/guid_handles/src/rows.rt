@@ -1,5 +1,5 @@
 //! The live handles.
-ghost use Rattle.std.specs.Prelude.{◌≡◌, ◌<◌, ◌≤◌, ◌==◌, ◌++◌, ℕ, [], ◌∷◌, not, length, nat_lt, true, false, is_some, None, slice_get, IfOk, OnOk, OnErr, IfSome, IfNone};
+ghost use Rattle.std.specs.Prelude.{◌≡◌, ◌<◌, ◌≤◌, ◌==◌, ◌++◌, ℕ, [], ◌∷◌, not, length, nat_lt, true, false, is_some, None, IfOk, OnOk, OnErr, IfSome, IfNone};
 ghost use Rattle.std.specs.List.{find, filter, AllByRecursion};
 ghost use Rattle.guid_handles.specs.HandleTables.{has_number};
 ghost use Rattle.guid_handles.specs.Sorting.{Ascending, place};
@@ -10,7 +10,7 @@ ghost use Rattle.guid_handles.specs.MadeOn.{ChangesMade, numbers_made_on};
 use crate::blocks::Blocks;
 use crate::handle_row::HandleRow;
 use crate::records::LiveHandle;
-use crate::room::{make_room, push_with_room};
+use crate::room::make_room;
 use crate::searches::remove_number;
 use crate::sliding_row::SlidingRow;
 use std::alloc::{AllocError, Allocator};
@@ -260,7 +260,7 @@ impl<A: Allocator + Copy> Rows<A> {
         let row = HandleRow::new(*self.numbers.allocator(), live)?;
         note_made(&mut self.made, live)?;
         self.numbers.push(live.number);
-        push_with_room(&mut self.rows, row);
+        self.rows.push_reserved(row);
         Ok(())
     }
 

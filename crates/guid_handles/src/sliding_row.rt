@@ -2,7 +2,7 @@
 ghost use Rattle.std.specs.Prelude.{◌≡◌, ◌+◌, ◌<◌, ◌≤◌, ◌++◌, [], ◌∷◌, length, drop, vec_len, vec_capacity, IfOk, OnOk};
 ghost use Rattle.std.specs.List.{insert, remove};
 
-use crate::room::{insert_with_room, push_with_room};
+use crate::room::insert_with_room;
 use std::alloc::{AllocError, Allocator};
 use std::marker::Model;
 
@@ -150,12 +150,12 @@ impl<T: Copy, A: Allocator> SlidingRow<T, A> {
         ensures { self.new.items ≡ self.old.items ++ value ∷ [] }
     {
         if self.values.len() < self.values.capacity() {
-            push_with_room(&mut self.values, value);
+            self.values.push_reserved(value);
             return;
         }
         close_gap(&mut self.values, self.gone);
         self.gone = 0;
-        push_with_room(&mut self.values, value);
+        self.values.push_reserved(value);
     }
 
     /// Removes the value at a place, by which there is room for another one.

@@ -7,7 +7,7 @@ ghost use Rattle.guid_handles.specs.FiledTurns.{AreFiledInTurn, filed_stamp, fil
 ghost use Rattle.guid_handles.specs.TurnSteps.{moved_turn, turn_after};
 
 use crate::records::{FiledTurn, Turn};
-use crate::room::{insert_with_room, push_with_room};
+use crate::room::insert_with_room;
 use std::alloc::{AllocError, Allocator};
 use std::marker::Model;
 
@@ -277,7 +277,7 @@ impl<A: Allocator + Copy> Turns<A> {
         clear_above(&mut self.turns, stamp);
         let place = self.turns.len();
         let turn = Turn { stamp, handle };
-        push_with_room(&mut self.turns, FiledTurn { turn, gone: false });
+        self.turns.push_reserved(FiledTurn { turn, gone: false });
         Ok(place)
     }
 

@@ -1,5 +1,5 @@
 //! The open items at their places, and where those on each handle and of each controller are.
-ghost use Rattle.std.specs.Prelude.{◌≡◌, ◌-◌, ◌<◌, ◌≤◌, ◌^◌, ◌==◌, ◌++◌, ◌∷◌, ℕ, [], None, true, false, drop, length, map, take, is_some, slice_get, slice_set, vec_len, vec_capacity, IfOk, OnOk, OnErr};
+ghost use Rattle.std.specs.Prelude.{◌≡◌, ◌-◌, ◌<◌, ◌≤◌, ◌^◌, ◌==◌, ◌++◌, ◌∷◌, ℕ, [], None, true, false, drop, length, take, is_some, slice_get, slice_set, IfOk, OnOk, OnErr};
 ghost use Rattle.std.specs.List.{filter, list_any, AllByRecursion};
 ghost use Rattle.guid_handles.specs.Blocks.{ChangesBlock, ChangesBlocks, IsFree, block_at, with_last};
 ghost use Rattle.open_agents.specs.OpenItems as spec;
@@ -243,7 +243,7 @@ impl<A: Allocator + Copy> ItemStore<A> {
         self.slots.reserve(1)?;
         let place = self.slots.as_slice().len();
         file_place(&mut self.blocks, &mut self.agents, item, place)?;
-        push_with_room(&mut self.slots, Some(*item));
+        self.slots.push_reserved(Some(*item));
         self.count += 1;
         Ok(())
     }
@@ -321,14 +321,4 @@ fn file_place<A: Allocator + Copy>(
         return Err(fault);
     }
     Ok(())
-}
-
-/// Appends an item, for which there is room.
-fn push_with_room<T: Drop, A: Allocator>(items: &mut Vec<T, A>, item: T)
-    requires { vec_len items.old < vec_capacity items.old }
-    ensures { items.new.items ≡ items.old.items ++ item ∷ [] }
-{
-    if items.push(item).is_err() {
-        unreachable!();
-    }
 }

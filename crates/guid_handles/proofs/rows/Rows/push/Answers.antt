@@ -24,13 +24,13 @@ invariant_of-self-in_err-note_made g c =
 pub invariant_of-self-2 : goal.invariant_of-self-2
 invariant_of-self-2 g c =
     let row : FiledRow = record { row = record { live = c.args.live; keys = [] }; gone = false } in
-    rw (c.push_with_room.ensures, c.make_room.ensures.items, c.push.ensures, c.reserve.ensures.items, c.in_ok-row.ensures)
+    rw (c.push_reserved.ensures.items, c.make_room.ensures.items, c.push.ensures, c.reserve.ensures.items, c.in_ok-row.ensures)
     (rows_push _ _ _ row _ _ c.self.invariant c.clear_above.ensures.same c.clear_above.ensures.filed refl c.clear_above.ensures.below (rw (← c.self.view_is) at c.requires) c.in_ok-note_made.ensures.ok)
 
 pub returns-clause-ok : goal.returns-clause-ok
 returns-clause-ok g c =
     let row : FiledRow = record { row = record { live = c.args.live; keys = [] }; gone = false } in
-    rw (← c.self.view_is, c.push_with_room.ensures, c.make_room.ensures.items, c.in_ok-row.ensures)
+    rw (← c.self.view_is, c.push_reserved.ensures.items, c.make_room.ensures.items, c.in_ok-row.ensures)
     (rows_pushed c.clear_above.new.rows.items row refl ∙ ap (λ rs. rs ++ row.row ∷ []) c.clear_above.ensures.same)
 
 pub clear_above-requires-clause-filed : goal.clear_above-requires-clause-filed
@@ -42,8 +42,8 @@ clear_above-requires-clause-live g c = rw (← c.self.view_is) at c.requires
 pub push-requires : goal.push-requires
 push-requires g c = c.in_ok-reserve.ensures.room
 
-pub push_with_room-requires : goal.push_with_room-requires
-push_with_room-requires g c = c.in_ok-make_room.ensures.room
+pub push_reserved-requires : goal.push_reserved-requires
+push_reserved-requires g c = c.in_ok-make_room.ensures.room
 
 pub returns-in_err-reserve-clause-ok : goal.returns-in_err-reserve-clause-ok
 returns-in_err-reserve-clause-ok g c = IfOk-from_err c.from_residual-in_err-reserve.result _ c.from_residual-in_err-reserve.ensures.0

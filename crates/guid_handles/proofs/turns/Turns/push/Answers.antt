@@ -6,11 +6,11 @@ use Rattle.guid_handles.proofs.SlidRows.{on_err}
 use Rattle.guid_handles.proofs.turns.Turns.push.Goals as goal
 
 pub invariant_of-self-2 : goal.invariant_of-self-2
-invariant_of-self-2 g c = rw c.push_with_room.ensures (filed_push c.args.handle c.args.stamp _ c.clear_above.ensures.filed c.clear_above.ensures.below)
+invariant_of-self-2 g c = rw c.push_reserved.ensures.items (filed_push c.args.handle c.args.stamp _ c.clear_above.ensures.filed c.clear_above.ensures.below)
 
 pub returns-clause-ok : goal.returns-clause-ok
 returns-clause-ok g c =
-    rw (← c.self.view_is, c.push_with_room.ensures)
+    rw (← c.self.view_is, c.push_reserved.ensures.items)
     (turn_pushed c.args.handle c.args.stamp c.clear_above.new.turns.items ∙ ap (with_turn c.args.handle c.args.stamp) (c.clear_above.ensures.left ∙ c.make_room.ensures.left))
 
 pub make_room-requires : goal.make_room-requires
@@ -34,5 +34,5 @@ clear_above-requires-clause-below g c = rw c.make_room.ensures.left (rw (← c.s
 pub clear_above-requires-clause-room : goal.clear_above-requires-clause-room
 clear_above-requires-clause-room g c = c.in_ok-make_room.ensures.room
 
-pub push_with_room-requires : goal.push_with_room-requires
-push_with_room-requires g c = c.clear_above.ensures.room
+pub push_reserved-requires : goal.push_reserved-requires
+push_reserved-requires g c = c.clear_above.ensures.room

@@ -4,7 +4,7 @@ use Rattle.open_agents.proofs.store.ItemStore.append.Goals as goal
 
 pub returns-clause-ok : goal.returns-clause-ok
 returns-clause-ok g c =
-    rw (c.push_with_room.ensures, c.reserve.ensures.items, ← c.self.view_is) (items_pushed c.self.inside.slots.items c.args.item.now)
+    rw (c.push_reserved.ensures.items, c.reserve.ensures.items, ← c.self.view_is) (items_pushed c.self.inside.slots.items c.args.item.now)
 
 pub file_place-requires : goal.file_place-requires
 file_place-requires g c = rw (c.as_slice-place.ensures.value, c.reserve.ensures.items) (next_free _ _ _ c.self.invariant.0)
@@ -16,7 +16,7 @@ invariant_of-self-in_err-file_place g c =
 
 pub invariant_of-self-2 : goal.invariant_of-self-2
 invariant_of-self-2 g c =
-    rw (c.push_with_room.ensures, c.reserve.ensures.items) (
+    rw (c.push_reserved.ensures.items, c.reserve.ensures.items) (
       store_pushed _ c.args.item.now _ _ _ _ c.self.invariant.0 (rw (← c.self.view_is) at c.requires.new) c.requires.agent
           (rw (c.as_slice-place.ensures.value, c.reserve.ensures.items) at c.in_ok-file_place.ensures.blocks)
           (rw (c.as_slice-place.ensures.value, c.reserve.ensures.items) at c.in_ok-file_place.ensures.agents),
