@@ -254,7 +254,7 @@ fn driver_after<D: Driver, A: Allocator + Copy>(
 
 /// Whether a handle has a driver once a stop is carried out and an interface has another value, which is
 /// ready then on the handle of the interface. The protocols there are given, and how many handles stay.
-fn has_ready_driver<D: Driver, A: Allocator + Copy>(
+fn has_ready_after<D: Driver, A: Allocator + Copy>(
     plan: &StopPlan<A>,
     handles: &Handles<A>,
     drivers: &[D],
@@ -289,7 +289,7 @@ fn has_ready_driver<D: Driver, A: Allocator + Copy>(
 }
 
 /// Whether one of some handles has such a driver.
-fn has_any_ready_driver<D: Driver, A: Allocator + Copy>(
+fn has_any_ready_after<D: Driver, A: Allocator + Copy>(
     plan: &StopPlan<A>,
     handles: &Handles<A>,
     drivers: &[D],
@@ -309,7 +309,7 @@ fn has_any_ready_driver<D: Driver, A: Allocator + Copy>(
         plan.now handles.now handle guid value protocols.now) agents.now }
 {
     for agent in agents {
-        if has_ready_driver(
+        if has_ready_after(
             plan, handles, drivers, protocols, count, handle, guid, value, *agent,
         ) {
             return true;
@@ -336,7 +336,7 @@ pub fn is_ready_after<D: Driver, A: Allocator + Copy>(
         plan.now handles.now opens.now handle guid value) }
 {
     let protocols = protocols_left(alloc, plan, handles, opens, handle, guid, value)?;
-    Ok(has_any_ready_driver(
+    Ok(has_any_ready_after(
         plan,
         handles,
         drivers,

@@ -1,7 +1,7 @@
 use Rattle.std.proofs.Common.{map}
 use Rattle.driver_connect.specs.AfterStop.{handles_after}
 use Rattle.driver_connect.proofs.ReadyAfter.{ready_by}
-use Rattle.driver_connect.proofs.readiness.has_ready_driver.Goals as goal
+use Rattle.driver_connect.proofs.readiness.has_ready_after.Goals as goal
 
 pub returns-in-Some : goal.returns-in-Some
 returns-in-Some g c =

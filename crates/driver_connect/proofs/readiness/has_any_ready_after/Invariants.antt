@@ -1,7 +1,7 @@
 use Rattle.std.proofs.Common.{◌≡◌, map, drop}
 use Rattle.std.specs.List.{list_any}
 use Rattle.driver_connect.specs.AfterStop.{has_ready_after}
-use Rattle.driver_connect.proofs.readiness.has_any_ready_driver.Given as goal
+use Rattle.driver_connect.proofs.readiness.has_any_ready_after.Given as goal
 
 abbrev pub invariant-loop-agent : goal.invariant-loop-agent
 invariant-loop-agent g l =
