@@ -4,6 +4,8 @@ pub mod Rounds
 pub mod VersionOrder
 pub mod Opened
 pub mod Passes
+pub mod ByTurns
+pub mod FewHandles
 pub mod Levels
 pub mod Pending
 pub mod InTurn

@@ -16,10 +16,10 @@ use Rattle.open_agents.specs.declared.items.OpenRecord.{OpenRecord}
 use Rattle.open_agents.specs.OpenItems.{is_open_on, is_of_pair, is_equal_item, counted, with_item}
 use Rattle.protocol_notify.specs.declared.notify.Registration.{Registration}
 use Rattle.driver_connect.specs.declared.agents.Agent.{Agent}
-use Rattle.driver_connect.specs.declared.view.ProtocolView.{ProtocolView}
 use Rattle.driver_connect.specs.Drivers.{Meaning, Plan, driver_binding, agent_of, version_at, protocols_on}
-use Rattle.driver_connect.specs.Starting.{Site, Progress, site, is_listed, with_named, with_all_named, with_agent, by_version, other, others_among, agents_for, can_start, with_driver_items, with_child, with_children, carried_out, plan_for, is_supported, is_carried_out, turn, after_turn, left_of, pass, passes, starts_on}
+use Rattle.driver_connect.specs.Starting.{Site, Progress, site, is_listed, with_named, with_all_named, with_agent, by_version, other, others_among, agents_for, with_driver_items, with_child, with_children, carried_out, plan_for, is_supported, is_carried_out, turn, after_turn, left_of, pass, passes, starts_on}
 use Rattle.driver_connect.specs.Connecting.{made_after, for_each, connected}
+use Rattle.driver_connect.proofs.Passes.{sound_plan}
 use Rattle.driver_connect.specs.Laws.{is_of_maker, has_makers_item, MakesHandles}
 
 -- no interface is on handle 0
@@ -140,16 +140,10 @@ carried_makes rs n agent plan p l e =
       zero_free = children_above (by n agent) plan.children p.handles;
     }
 
-opens_some : (t : HandleTable) (protocols : List ProtocolView) (plan : Plan) → can_start t protocols plan ≡ true → (length plan.opens == 0) ≡ false
-opens_some t protocols plan h = elim (cases_Bool (length plan.opens == 0)) [
-  | inl e ↦ let k = rw e at h in cc
-  | inr e ↦ e
-]
-
 turn_makes : (c : Site) (p : Progress) (a : Agent) → 0 < a.handle → Makes p (after_turn c p a)
 turn_makes c p a l = elim (cases_Bool (is_supported c p a)) [
   | inl e ↦ elim (cases_Bool (is_carried_out c p a)) [
-    | inl f ↦ rw e (rw f (carried_makes c.registrations c.controller a.handle (plan_for c p a) p l (opens_some p.handles (protocols_on p.handles p.opens c.controller) (plan_for c p a) f)))
+    | inl f ↦ rw e (rw f (carried_makes c.registrations c.controller a.handle (plan_for c p a) p l (sound_plan p.handles (protocols_on p.handles p.opens c.controller) (plan_for c p a) f).some))
     | inr f ↦ rw e (rw f (makes_same p))
   ]
   | inr e ↦ rw e (makes_same p)

@@ -1,11 +1,11 @@
 -- A pass over drivers, one turn after the other.
-use Rattle.std.proofs.Common.{◌≡◌, ℕ, suc, ◌+◌, ◌-◌, ◌<◌, ◌≤◌, ◌==◌, Bool, true, false, cond, Some, List, [], ◌∷◌, ◌++◌, map, length, drop, get_or, inl, inr, refl, sym, ap, ◌∙◌, append_assoc, append-nil, arith}
+use Rattle.std.proofs.Common.{◌≡◌, ℕ, suc, ◌+◌, ◌-◌, ◌<◌, ◌≤◌, ◌==◌, ◌&&◌, nat_le, not, Bool, true, false, cond, Some, List, [], ◌∷◌, ◌++◌, map, length, drop, get_or, inl, inr, refl, sym, ap, ◌∙◌, append_assoc, append-nil, arith}
 use Rattle.std.specs.List.{list_all, filter, AllByRecursion}
-use Rattle.std.proofs.lemmas.Bool.{cases_Bool}
+use Rattle.std.proofs.lemmas.Bool.{and_parts, cases_Bool, leb-true, not-true}
 use Rattle.std.proofs.lemmas.Bool.Decides.{eqb_tells}
 use Rattle.guid_handles.specs.declared.records.Interface.{Interface}
 use Rattle.guid_handles.specs.HandleTables.{HandleTable, same_guid, is_on}
-use Rattle.guid_handles.specs.HandleChanges.{max_in_table}
+use Rattle.guid_handles.specs.HandleChanges.{max_handles}
 use Rattle.guid_handles.proofs.SortedLists.{drop_next}
 use Rattle.guid_handles.proofs.GuidOrder.{same_guid-true}
 use Rattle.open_agents.specs.declared.items.OpenRecord.{OpenRecord}
@@ -15,7 +15,7 @@ use Rattle.driver_connect.specs.declared.starting.Start.{Start}
 use Rattle.driver_connect.specs.declared.view.ProtocolView.{ProtocolView}
 use Rattle.driver_connect.specs.Drivers.{Plan, protocol_view, protocols_on, is_free}
 use Rattle.driver_connect.specs.Room.{HasRoom, Grows}
-use Rattle.driver_connect.specs.Starting.{Site, Progress, Passed, can_start, carried_out, has_twice, is_carried_out, is_supported, joined, plan_for, turn, after_turn, starts_of, left_of, pass, passes}
+use Rattle.driver_connect.specs.Starting.{Site, Progress, Passed, can_start, carried_out, has_twice, is_carried_out, is_child, is_supported, joined, plan_for, turn, after_turn, starts_of, left_of, pass, passes}
 
 pub grows_same : (t : HandleTable) → Grows t t
 grows_same t = record { handles = omega arith; numbers = omega arith; stamps = omega arith }
@@ -50,17 +50,28 @@ free_unheld opens n guid (i ∷ is) h = elim (eqb_tells i.handle n) [
       ]
 ]
 
-pub can_start-free : (t : HandleTable) (protocols : List ProtocolView) (plan : Plan) → can_start t protocols plan ≡ true → list_all (is_free protocols) plan.opens ≡ true
-can_start-free t protocols plan h = elim (cases_Bool (list_all (is_free protocols) plan.opens)) [
-  | inl e ↦ e
-  | inr e ↦ absurd (let k = rw e at h in elim (cases_Bool (length plan.opens == 0)) [
-    | inl a ↦ let m = rw a at k in cc
-    | inr a ↦ let m = rw a at k in elim (cases_Bool (has_twice plan.opens)) [
-      | inl b ↦ let n = rw b at m in cc
-      | inr b ↦ let n = rw b at m in cc
-    ]
-  ])
-]
+-- what is known of a plan that can be carried out
+pub record IsSound (t : HandleTable) (protocols : List ProtocolView) (plan : Plan) : Type 0 where
+  pub some : (length plan.opens == 0) ≡ false
+  pub once : has_twice plan.opens ≡ false
+  pub free : list_all (is_free protocols) plan.opens ≡ true
+  pub children : list_all is_child plan.children ≡ true
+  pub room : length t.handles + length plan.children ≤ max_handles
+
+pub sound_plan : (t : HandleTable) (protocols : List ProtocolView) (plan : Plan) → can_start t protocols plan ≡ true → IsSound t protocols plan
+sound_plan t protocols plan h =
+    let room : Bool = nat_le (length t.handles + length plan.children) max_handles in
+    let a = and_parts (not (length plan.opens == 0)) (not (has_twice plan.opens) && (list_all (is_free protocols) plan.opens && (list_all is_child plan.children && room))) h in
+    let b = and_parts (not (has_twice plan.opens)) (list_all (is_free protocols) plan.opens && (list_all is_child plan.children && room)) a.1 in
+    let c = and_parts (list_all (is_free protocols) plan.opens) (list_all is_child plan.children && room) b.1 in
+    let d = and_parts (list_all is_child plan.children) room c.1 in
+    record {
+      some = not-true (length plan.opens == 0) a.0;
+      once = not-true (has_twice plan.opens) b.0;
+      free = c.0;
+      children = d.0;
+      room = leb-true (length t.handles + length plan.children) max_handles d.1;
+    }
 
 pub all_unheld : (t : HandleTable) (opens : List OpenRecord) (n : ℕ) (guids : List (List ℕ)) → list_all (is_free (protocols_on t opens n)) guids ≡ true → AllByRecursion (λ guid. has_holder opens n guid ≡ false) guids
 all_unheld t opens n [] h = tt
@@ -71,7 +82,7 @@ all_unheld t opens n (g ∷ gs) h = elim (cases_Bool (is_free (protocols_on t op
 
 -- the GUIDs of a plan that can be carried out are not held
 pub planned_unheld : (p : Progress) (n : ℕ) (plan : Plan) → can_start p.handles (protocols_on p.handles p.opens n) plan ≡ true → AllByRecursion (λ guid. has_holder p.opens n guid ≡ false) plan.opens
-planned_unheld p n plan h = all_unheld p.handles p.opens n plan.opens (can_start-free p.handles (protocols_on p.handles p.opens n) plan h)
+planned_unheld p n plan h = all_unheld p.handles p.opens n plan.opens (sound_plan p.handles (protocols_on p.handles p.opens n) plan h).free
 
 -- ---- turns
 
@@ -113,11 +124,3 @@ passes_more c starts agents n k p whole l z h =
     let e : n - k ≡ suc (n - (k + 1)) = omega arith in
     let w : joined starts [] (joined (pass c agents p).starts [] (passes (n - (k + 1)) c (pass c agents p).left (pass c agents p).progress)) ≡ whole = rw z at (rw e at h) in
     sym (joined_twice starts (pass c agents p).starts [] [] (passes (n - (k + 1)) c (pass c agents p).left (pass c agents p).progress)) ∙ w
-
--- ---- bounds
-
-pub numbers_rise : (s t : HandleTable) → Grows s t → length t.handles ≤ max_in_table → t.last_number ≤ s.last_number + 8192
-numbers_rise s t a l = omega (arith, a.numbers, l)
-
-pub stamps_rise : (s t : HandleTable) → Grows s t → length t.handles ≤ max_in_table → t.last_stamp ≤ s.last_stamp + 32768
-stamps_rise s t a l = omega (arith, a.stamps, l)

@@ -343,4 +343,5 @@ given_made t = record {
   on_later = tt;
   number = omega arith;
   stamp = omega arith;
+  places = refl;
 }

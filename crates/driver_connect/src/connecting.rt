@@ -1,5 +1,5 @@
 //! Connecting a handle, and the handles that are made.
-ghost use Rattle.std.specs.Prelude.{◌≡◌, ◌+◌, ◌<◌, ◌≤◌, ◌^◌, ◌++◌, true, false, [], length, map, IfOk, OnOk, OnErr};
+ghost use Rattle.std.specs.Prelude.{◌≡◌, ◌+◌, ◌<◌, ◌≤◌, ◌^◌, ◌++◌, true, false, [], length, IfOk, OnOk, OnErr};
 ghost use Rattle.driver_connect.specs.Connecting as spec;
 ghost use Rattle.driver_connect.specs.Connecting.{ConnectsBy};
 ghost use Rattle.driver_connect.specs.Beside.{MayLeave, reached};
@@ -173,8 +173,8 @@ fn connect_in_place<D: Driver, A: Allocator + Copy>(
     requires stamps { handles.old.last_stamp < 2 ^ 61 }
     ensures connects { ConnectsBy D.meaning drivers.now notify.now handle named.now recursive
         handles.old opens.old result handles.new opens.new }
-    ensures numbers { handles.new.last_number ≤ handles.old.last_number + 8192 }
-    ensures stamps { handles.new.last_stamp ≤ handles.old.last_stamp + 32768 }
+    ensures numbers { handles.new.last_number ≤ handles.old.last_number + 4096 }
+    ensures stamps { handles.new.last_stamp ≤ handles.old.last_stamp + 16384 }
 {
     // The contract of this look-up says that the handles are in order.
     let _numbers = handles.all();
@@ -221,8 +221,8 @@ pub fn connect<D: Driver, A: Allocator + Copy>(
     requires stamps { handles.old.last_stamp < 2 ^ 61 }
     ensures connects { ConnectsBy D.meaning drivers.now notify.now handle named.now recursive
         handles.old opens.old result handles.new opens.new }
-    ensures numbers { handles.new.last_number ≤ handles.old.last_number + 8192 }
-    ensures stamps { handles.new.last_stamp ≤ handles.old.last_stamp + 32768 }
+    ensures numbers { handles.new.last_number ≤ handles.old.last_number + 4096 }
+    ensures stamps { handles.new.last_stamp ≤ handles.old.last_stamp + 16384 }
 {
     if is_refused(handles, handle, named) {
         return Err(Status::InvalidParameter);
@@ -289,8 +289,8 @@ pub(crate) fn connect_below<D: Driver, A: Allocator + Copy>(
     ensures ok { ConnectsBeside leaving.now D.meaning drivers.now notify.now
         handle handles.old opens.old given.now result handles.new opens.new }
     ensures err { OnErr result ((handles.new ≡ handles.old) × (opens.new ≡ opens.old)) }
-    ensures numbers { handles.new.last_number ≤ handles.old.last_number + 8192 }
-    ensures stamps { handles.new.last_stamp ≤ handles.old.last_stamp + 32768 }
+    ensures numbers { handles.new.last_number ≤ handles.old.last_number + 4096 }
+    ensures stamps { handles.new.last_stamp ≤ handles.old.last_stamp + 16384 }
 {
     // The contract of this look-up says that the handles are in order.
     let _numbers = handles.all();

@@ -1,5 +1,5 @@
 //! The turns of drivers on a controller, for a caller that starts them itself.
-ghost use Rattle.std.specs.Prelude.{◌≡◌, ◌<◌, ◌≤◌, take, length};
+ghost use Rattle.std.specs.Prelude.{◌≡◌, ◌<◌, ◌≤◌, length};
 ghost use Rattle.driver_connect.specs.DriverTurns as spec;
 
 use crate::agents::Agent;

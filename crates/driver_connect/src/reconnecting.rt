@@ -37,8 +37,8 @@ fn replace_beside<D: Driver, A: Allocator + Copy>(
     ensures ok { ReconnectsBeside leaving.now D.meaning drivers.now notify.now
         handle guid value handles.old opens.old given.now result handles.new opens.new }
     ensures err { OnErr result ((handles.new ≡ handles.old) × (opens.new ≡ opens.old)) }
-    ensures numbers { handles.new.last_number ≤ handles.old.last_number + 8192 }
-    ensures stamps { handles.new.last_stamp ≤ handles.old.last_stamp + 32769 }
+    ensures numbers { handles.new.last_number ≤ handles.old.last_number + 4096 }
+    ensures stamps { handles.new.last_stamp ≤ handles.old.last_stamp + 16385 }
 {
     let Some(own) = handles.installed(handle, guid) else {
         unreachable!();
@@ -67,7 +67,8 @@ fn replace_beside<D: Driver, A: Allocator + Copy>(
 
 /// Removes the handles of a stop, gives an interface of a handle that stays another value and a new
 /// stamp, and connects its handle with all below it, with no driver named. It returns the events given,
-/// then those of the connect. On an `Err` memory ran out, and nothing changes.
+/// then those of the connect. On an `Err` nothing changes: memory ran out, or the table has no places for the children beside
+/// the handles that go.
 pub fn replace_and_connect<D: Driver, A: Allocator + Copy>(
     alloc: A,
     plan: &StopPlan<A>,
@@ -87,8 +88,8 @@ pub fn replace_and_connect<D: Driver, A: Allocator + Copy>(
     ensures ok { ReconnectsBeside plan.now.handles D.meaning drivers.now notify.now
         handle guid value handles.old opens.old given.now result handles.new opens.new }
     ensures err { OnErr result ((handles.new ≡ handles.old) × (opens.new ≡ opens.old)) }
-    ensures numbers { handles.new.last_number ≤ handles.old.last_number + 8192 }
-    ensures stamps { handles.new.last_stamp ≤ handles.old.last_stamp + 32769 }
+    ensures numbers { handles.new.last_number ≤ handles.old.last_number + 4096 }
+    ensures stamps { handles.new.last_stamp ≤ handles.old.last_stamp + 16385 }
 {
     // The contract of this look-up says that the handles are in order.
     let _numbers = handles.all();

@@ -16,7 +16,7 @@ use crate::numbers::is_among;
 use crate::progress::{can_start, make_children, open_for_driver, signal_children};
 use crate::protocols::protocols_on;
 use crate::view::{ProtocolView, StartPlan, View};
-use guid_handles::{Handles, MAX_IN_TABLE, Maker};
+use guid_handles::{Handles, Maker};
 use open_agents::Opens;
 use protocol_notify::Notify;
 use std::alloc::{AllocError, Allocator};
@@ -116,7 +116,6 @@ impl<'a, A: Allocator + Copy> Connecting<'a, A> {
         ensures handles { handles.new ≡ self.entry.handles }
         ensures opens { opens.new ≡ self.entry.opens }
         ensures events { result.items ≡ self.entry.events }
-        ensures limit { length handles.new.handles ≤ max_in_table }
     {
         let Connecting {
             handles: new_handles,
@@ -124,7 +123,6 @@ impl<'a, A: Allocator + Copy> Connecting<'a, A> {
             events,
             leaving: _,
         } = self;
-        let _count = new_handles.all().len();
         *handles = new_handles;
         *opens = new_opens;
         events
@@ -165,8 +163,8 @@ impl<'a, A: Allocator + Copy> Connecting<'a, A> {
         Ok(agents)
     }
 
-    /// Carries out a plan that can be. On an `Err` memory ran out, or the table has no room for its children:
-    /// it has, where no more handles go than may be live.
+    /// Carries out a plan that can be. On an `Err` memory ran out, or the table has no places for its children
+    /// beside handles that go.
     fn carry_out(
         &mut self,
         notify: &Notify<A>,
@@ -183,7 +181,7 @@ impl<'a, A: Allocator + Copy> Connecting<'a, A> {
         ensures grows { OnOk result (Grows self.old.handles self.new.handles) }
         ensures goes_on { GoesOn self.old self.new }
     {
-        if self.handles.all().len() + plan.children.len() > MAX_IN_TABLE {
+        if self.handles.all().len() + plan.children.len() > self.handles.places() {
             return Err(AllocError);
         }
         open_for_driver(&mut self.opens, controller, agent, plan.opens.as_slice())?;

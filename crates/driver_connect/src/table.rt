@@ -1,5 +1,5 @@
 //! Drivers that are tables.
-ghost use Rattle.std.specs.Prelude.{◌≡◌, map};
+ghost use Rattle.std.specs.Prelude.{◌≡◌};
 ghost use Rattle.driver_connect.specs.Drivers.{is_free};
 
 use crate::driver::Driver;

@@ -182,9 +182,9 @@ module _ (guid : List ℕ) (mark : ℕ) (is : List Interface) (a : Ascending Are
         | inr h ↦ found_in p vs u (rw h at k)
       ]
 
-module _ (rows : List Row) (slots : List (Option Record)) (groups : List Group) (number stamp : ℕ) (s : IsStore rows slots groups number stamp) where
+module _ (rows : List Row) (slots : List (Option Record)) (groups : List Group) (number stamp places : ℕ) (s : IsStore rows slots groups number stamp places) where
   -- the interface that a group has next is the next of all
   pub next_listed : (guid : List ℕ) (mark : ℕ) → AreInTurn (turns_of groups guid)
-      → option_map {U = ℕ × ℕ} (λ t. (t.handle, t.stamp)) (find (λ t. nat_lt mark t.stamp) (turns_of groups guid)) ≡ next_after (table_of rows slots number stamp) guid mark
+      → option_map {U = ℕ × ℕ} (λ t. (t.handle, t.stamp)) (find (λ t. nat_lt mark t.stamp) (turns_of groups guid)) ≡ next_after (table_of rows slots number stamp places) guid mark
   next_listed guid mark ordered =
       next_turned guid mark (installed_until stamp slots) s.table.apart (turns_of groups guid) ordered (s.turns guid) (find (λ t. nat_lt mark t.stamp) (turns_of groups guid)) refl

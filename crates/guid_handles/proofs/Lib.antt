@@ -16,6 +16,7 @@ pub mod InTurn
 pub mod FiledTurns
 pub mod Apart
 pub mod Found
+pub mod ProperChanges
 pub mod Stored
 pub mod Following
 pub mod JoinedRows

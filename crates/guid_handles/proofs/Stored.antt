@@ -1,5 +1,5 @@
 -- What is asked of a handle table, by how it is kept; and what its changes keep.
-use Rattle.std.proofs.Common.{◌≡◌, ◌≢◌, ℕ, zero, suc, ◌+◌, ◌-◌, ◌<◌, ◌≤◌, ◌==◌, ◌&&◌, nat_eq, not, Bool, true, false, cond, List, [], ◌∷◌, ◌++◌, map, length, Option, Some, None, is_some, IfSome, inl, inr, refl, sym, ap, ◌∙◌, arith, append-nil, length-append, subst}
+use Rattle.std.proofs.Common.{◌≡◌, ◌≢◌, ℕ, zero, suc, ◌+◌, ◌-◌, ◌<◌, ◌≤◌, ◌==◌, ◌&&◌, nat_eq, not, Bool, true, false, cond, List, [], ◌∷◌, ◌++◌, map, length, Option, Some, None, is_some, IfSome, inl, inr, refl, sym, ap, ◌∙◌, arith, append-nil, subst}
 use Rattle.std.specs.List.{filter, find, list_any, slice_get, AllByRecursion, AllZip}
 use Rattle.std.specs.Option.{option_map, option_and_then, option_to_list}
 use Rattle.std.proofs.lemmas.Bool.{cases_Bool, cases_eq, ne_eqb, eq-eqb}
@@ -12,18 +12,18 @@ use Rattle.guid_handles.specs.declared.records.LiveHandle.{LiveHandle}
 use Rattle.guid_handles.specs.declared.records.Maker.{Maker}
 use Rattle.guid_handles.specs.declared.records.Record.{Record}
 use Rattle.guid_handles.specs.HandleTables.{HandleTable, numbers, same_guid, is_on, is_at, is_live, has_number, carries, holders_of}
-use Rattle.guid_handles.specs.HandleChanges.{IsHandleTable, max_in_table, is_taken, has_guid_twice, stamped, restamped, with_interfaces, with_handle, without_handle}
+use Rattle.guid_handles.specs.HandleChanges.{IsHandleTable, max_handles, max_in_table, is_taken, has_guid_twice, stamped, restamped, with_interfaces, with_handle, without_handle}
 use Rattle.guid_handles.specs.Sorting.{Ascending}
 use Rattle.guid_handles.specs.Indexes.{Row, Group, ChangesKeys, ChangesTurns, AreOn, AreAbsent, HaveSameTurns, lives, is_row_of, row_numbers, keys_of, keys_on, key_at, turns_of, with_turn, without_turn}
 use Rattle.guid_handles.specs.Slots.{at_key, at_keys, record_at, installed_until, with_stamp}
 use Rattle.guid_handles.specs.TableSteps.{IsAlone, MayHave, put_at}
 use Rattle.guid_handles.specs.TurnSteps.{moved_turn}
 use Rattle.guid_handles.specs.Stores.{AgreeOnKeys, AreApart, AreFiled, HaveInterfaces, IsStamped, IsStore, IsTable, table_of}
-use Rattle.guid_handles.proofs.SortedLists.{all_both, all_numbered, any_none, find_filter, find_push_other, those_among, filter_same, filter_whole, all_of, all_map, all_mapped, all_push, all_append, all_filter, all_filtered, any_map, any_found, any_push, any_last, any_kept, any_member, filter_map_filter, filter_shorter, map_append, ascending_filter, ascending_push, find_none, found_none}
+use Rattle.guid_handles.proofs.SortedLists.{all_both, all_numbered, any_none, find_filter, find_push_other, those_among, filter_same, filter_whole, all_of, all_map, all_filter, any_found, any_last, any_member, filter_map_filter, filter_shorter, map_append, ascending_filter, find_none, found_none}
 use Rattle.guid_handles.proofs.Filters.{filter_append, filter_inside, filter_swap, passed}
-use Rattle.guid_handles.proofs.Indexed.{restamped_handle}
 use Rattle.guid_handles.proofs.GuidOrder.{and_false, same_guid-refl}
 use Rattle.guid_handles.proofs.Apart.{apart_more, apart_restamped, below_more, below_restamped}
+use Rattle.guid_handles.proofs.ProperChanges.{fewer_handles, fewer_interfaces, more_interfaces, one_more, with_stamps}
 use Rattle.guid_handles.proofs.Found.{among_own, carried_live, found_one, live_is}
 use Rattle.guid_handles.proofs.Numbered.{find_lives, live_numbers}
 use Rattle.guid_handles.proofs.Slotted.{AreBelow, tagged, until_changed, until_later, until_less, until_more}
@@ -35,93 +35,34 @@ use Rattle.guid_handles.proofs.Filed.{agreed, found_at, have_long, have_these, f
 
 pub table_without_interface : (t : HandleTable) (n : ℕ) (guid : List ℕ) → IsTable t → IsTable (record t { interfaces = filter (λ i. not (is_at n guid i)) t.interfaces })
 table_without_interface t n guid s = record {
-  proper = record {
-    ascending = s.proper.ascending;
-    given = s.proper.given;
-    limit = s.proper.limit;
-    on_live = all_filter (λ i. list_any (λ m. nat_eq m i.handle) (numbers t) ≡ true) (λ i. not (is_at n guid i)) t.interfaces s.proper.on_live;
-  };
+  proper = fewer_interfaces (λ i. not (is_at n guid i)) t s.proper;
   apart = ascending_filter AreApart (λ i. not (is_at n guid i)) t.interfaces s.apart;
   below = all_filter (λ i. i.stamp ≤ t.last_stamp) (λ i. not (is_at n guid i)) t.interfaces s.below;
 }
 
-left_on_live : (n : ℕ) (ns : List ℕ) (is : List Interface) → AreOn ns is → AreOn (filter (λ m. not (m == n)) ns) (filter (λ i. not (is_on n i)) is)
-left_on_live n ns is a =
-    all_filtered (λ i. list_any (λ m. nat_eq m i.handle) (filter (λ m. not (m == n)) ns) ≡ true) (λ i. list_any (λ m. nat_eq m i.handle) ns ≡ true) (λ i. not (is_on n i))
-    (λ i k h. any_kept i.handle (λ m. not (m == n)) ns k h) is a
-
 table_without_handle : (t : HandleTable) (n : ℕ) → IsTable t → IsTable (without_handle n t)
-table_without_handle t n s =
-    let e : numbers (without_handle n t) ≡ filter (λ m. not (m == n)) (numbers t) = filter_map_filter (λ (h : LiveHandle). h.number) (λ m. not (m == n)) t.handles in
-    record {
-      proper = record {
-        ascending = rw e (ascending_filter (λ a b. a < b) (λ m. not (m == n)) (numbers t) s.proper.ascending);
-        given = rw e (all_filter (λ m. (0 < m) × (m ≤ t.last_number)) (λ m. not (m == n)) (numbers t) s.proper.given);
-        limit = omega (arith, s.proper.limit, filter_shorter (λ h. not (has_number n h)) t.handles);
-        on_live = rw e (left_on_live n (numbers t) t.interfaces s.proper.on_live);
-      };
-      apart = ascending_filter AreApart (λ i. not (is_on n i)) t.interfaces s.apart;
-      below = all_filter (λ i. i.stamp ≤ t.last_stamp) (λ i. not (is_on n i)) t.interfaces s.below;
-    }
-
-restamped_on_live : (n : ℕ) (guid : List ℕ) (value stamp : ℕ) (ns : List ℕ) (is : List Interface) → AreOn ns is → AreOn ns (map (restamped n guid value stamp) is)
-restamped_on_live n guid value stamp ns is a =
-    all_mapped (λ i. list_any (λ m. nat_eq m i.handle) ns ≡ true) (λ i. list_any (λ m. nat_eq m i.handle) ns ≡ true) (restamped n guid value stamp)
-    (λ i h. rw (restamped_handle n guid value stamp i) h) is a
+table_without_handle t n s = record {
+  proper = fewer_handles (λ m. not (m == n)) t s.proper;
+  apart = ascending_filter AreApart (λ i. not (is_on n i)) t.interfaces s.apart;
+  below = all_filter (λ i. i.stamp ≤ t.last_stamp) (λ i. not (is_on n i)) t.interfaces s.below;
+}
 
 table_put : (t : HandleTable) (n : ℕ) (guid : List ℕ) (value stamp : ℕ) → AllByRecursion (MayHave n guid stamp) t.interfaces → stamp ≤ t.last_stamp → IsTable t → IsTable (put_at n guid value stamp t)
 table_put t n guid value stamp may given s = record {
-  proper = record {
-    ascending = s.proper.ascending;
-    given = s.proper.given;
-    limit = s.proper.limit;
-    on_live = restamped_on_live n guid value stamp (numbers t) t.interfaces s.proper.on_live;
-  };
+  proper = with_stamps n guid value stamp t.last_stamp t s.proper;
   apart = apart_restamped n guid value stamp t.interfaces may s.apart;
   below = below_restamped n guid value stamp t.last_stamp t.interfaces given s.below;
 }
 
-stamped_on : (P : ℕ → Bool) (n stamp : ℕ) (pairs : List (List ℕ × ℕ)) → P n ≡ true → AllByRecursion (λ i. P i.handle ≡ true) (stamped n stamp pairs)
-stamped_on P n stamp [] h = tt
-stamped_on P n stamp (p ∷ ps) h = (h, stamped_on P n (stamp + 1) ps h)
-
--- a live handle is among the numbers
-pub live_number : (t : HandleTable) (n : ℕ) → is_live t n ≡ true → list_any (λ m. nat_eq m n) (numbers t) ≡ true
-live_number t n h = any_map (λ (l : LiveHandle). l.number) (λ m. nat_eq m n) t.handles ∙ sym (any_found (has_number n) t.handles) ∙ h
-
 table_with_interfaces : (t : HandleTable) (n : ℕ) (pairs : List (List ℕ × ℕ)) → IsTable t → is_live t n ≡ true → AreAbsent n pairs t.interfaces → has_guid_twice pairs ≡ false → IsTable (with_interfaces n pairs t)
 table_with_interfaces t n pairs s live absent once = record {
-  proper = record {
-    ascending = s.proper.ascending;
-    given = s.proper.given;
-    limit = s.proper.limit;
-    on_live = all_append (λ i. list_any (λ m. nat_eq m i.handle) (numbers t) ≡ true) t.interfaces (stamped n t.last_stamp pairs) s.proper.on_live
-        (stamped_on (λ h. list_any (λ m. nat_eq m h) (numbers t)) n t.last_stamp pairs (live_number t n live));
-  };
+  proper = more_interfaces n pairs t s.proper live;
   apart = apart_more n t.last_stamp pairs t.interfaces absent once s.below s.apart;
   below = below_more n t.last_stamp pairs t.interfaces s.below;
 }
 
-with_handle_on_live : (n : ℕ) (ns : List ℕ) (is : List Interface) → AreOn ns is → AreOn (ns ++ n ∷ []) is
-with_handle_on_live n ns is a =
-    all_map (λ i. list_any (λ m. nat_eq m i.handle) ns ≡ true) (λ i. list_any (λ m. nat_eq m i.handle) (ns ++ n ∷ []) ≡ true) (λ i h. any_push (λ m. nat_eq m i.handle) ns n h) is a
-
-table_with_handle : (t : HandleTable) (maker : Option Maker) → IsTable t → length t.handles < max_in_table → IsTable (with_handle maker t)
-table_with_handle t maker s room =
-    let e : numbers (with_handle maker t) ≡ numbers t ++ (t.last_number + 1) ∷ [] = map_append (λ (h : LiveHandle). h.number) t.handles (record { number = t.last_number + 1; maker = maker } ∷ []) in
-    record {
-      proper = record {
-        ascending = rw e (ascending_push (λ a b. a < b) (numbers t) (t.last_number + 1) s.proper.ascending
-            (all_map (λ m. (0 < m) × (m ≤ t.last_number)) (λ m. m < t.last_number + 1) (λ m h. omega (arith, h.1)) (numbers t) s.proper.given));
-        given = rw e (all_push (λ m. (0 < m) × (m ≤ t.last_number + 1)) (numbers t) (t.last_number + 1)
-            (all_map (λ m. (0 < m) × (m ≤ t.last_number)) (λ m. (0 < m) × (m ≤ t.last_number + 1)) (λ m h. (h.0, omega (arith, h.1))) (numbers t) s.proper.given)
-            (omega arith, omega arith));
-        limit = rw length-append (omega (arith, room));
-        on_live = rw e (with_handle_on_live (t.last_number + 1) (numbers t) t.interfaces s.proper.on_live);
-      };
-      apart = s.apart;
-      below = s.below;
-    }
+table_with_handle : (t : HandleTable) (maker : Option Maker) → IsTable t → length t.handles < t.places → IsTable (with_handle maker t)
+table_with_handle t maker s room = record { proper = one_more maker t s.proper room; apart = s.apart; below = s.below }
 
 -- the new handle is live
 pub new_is_live : (t : HandleTable) (maker : Option Maker) → is_live (with_handle maker t) (t.last_number + 1) ≡ true
@@ -326,10 +267,10 @@ keys_without rows n m e =
     ]
 
 -- nothing is kept at first
-pub empty_store : IsStore [] [] [] 0 0
-empty_store = record {
+pub empty_store : (places : ℕ) → max_handles ≤ places → places ≤ max_in_table → IsStore [] [] [] 0 0 places
+empty_store places least most = record {
   table = record {
-    proper = record { ascending = tt; given = tt; limit = omega arith; on_live = tt };
+    proper = record { ascending = tt; given = tt; limit = omega arith; places = (least, most); on_live = tt };
     apart = tt;
     below = tt;
   };
@@ -340,7 +281,7 @@ empty_store = record {
 
 -- ---- what is asked
 
-module _ (rows : List Row) (slots : List (Option Record)) (groups : List Group) (number stamp : ℕ) (s : IsStore rows slots groups number stamp) where
+module _ (rows : List Row) (slots : List (Option Record)) (groups : List Group) (number stamp places : ℕ) (s : IsStore rows slots groups number stamp places) where
   -- the interface at the key in its group is the one that is asked for
   pub stored_at : (n : ℕ) (guid : List ℕ) → find (is_at n guid) (installed_until stamp slots) ≡ option_and_then (at_key slots) (key_at groups guid n)
   stored_at n guid = found_at slots (is_at n guid) (installed_until stamp slots) (key_at groups guid n) (s.filed.by_guid n guid)
@@ -363,9 +304,9 @@ module _ (rows : List Row) (slots : List (Option Record)) (groups : List Group) 
   unkeyed n guid e = none_of (key_at groups guid n) (key_returned slots (is_at n guid) (installed_until stamp slots) (key_at groups guid n) (s.filed.by_guid n guid) ∙ ap is_some e)
 
   -- the handles of a GUID are those that have a key in its group
-  pub by_guid : (guid hs : List ℕ) → Ascending (λ a b. a < b) hs → ((n : ℕ) → list_any (λ h. h == n) hs ≡ is_some (key_at groups guid n)) → hs ≡ holders_of (table_of rows slots number stamp) guid
+  pub by_guid : (guid hs : List ℕ) → Ascending (λ a b. a < b) hs → ((n : ℕ) → list_any (λ h. h == n) hs ≡ is_some (key_at groups guid n)) → hs ≡ holders_of (table_of rows slots number stamp places) guid
   by_guid guid hs ascending those =
-      let t : HandleTable = table_of rows slots number stamp in
+      let t : HandleTable = table_of rows slots number stamp places in
       let returned : (n : ℕ) → list_any (λ h. h == n) hs ≡ carries t guid n =
       λ n. those n ∙ key_returned slots (is_at n guid) (installed_until stamp slots) (key_at groups guid n) (s.filed.by_guid n guid) in
       sym (filter_same (carries t guid) (λ n. list_any (λ h. h == n) hs) (numbers t) (all_of (λ n. carries t guid n ≡ list_any (λ h. h == n) hs) (λ n. sym (returned n)) (numbers t))
@@ -393,22 +334,22 @@ module _ (rows : List Row) (slots : List (Option Record)) (groups : List Group) 
 
   -- an interface comes
   pub stored_more : (rs : List Row) (new : List (Option Record)) (gs : List Group) (n : ℕ) (guid : List ℕ) (value key at : ℕ)
-      → is_live (table_of rows slots number stamp) n ≡ true → find (is_at n guid) (installed_until stamp slots) ≡ None
+      → is_live (table_of rows slots number stamp places) n ≡ true → find (is_at n guid) (installed_until stamp slots) ≡ None
       → record_at slots key ≡ None
       → record_at new key ≡ Some (record { interface = record { handle = n; guid = guid; value = value; stamp = stamp + 1 }; installed = stamp + 1; turn_place = at })
       → ((j : ℕ) → j ≢ key → record_at new j ≡ record_at slots j)
       → ChangesKeys n (λ ks. ks ++ key ∷ []) rows rs
       → ((k : List ℕ) (m : ℕ) → key_at gs k m ≡ cond ((n == m) && same_guid guid k) (Some key) (key_at groups k m))
       → ChangesTurns guid (with_turn n (stamp + 1)) groups gs
-      → (table_of rs new number (stamp + 1) ≡ with_interfaces n ((guid, value) ∷ []) (table_of rows slots number stamp)) × IsStore rs new gs number (stamp + 1)
+      → (table_of rs new number (stamp + 1) places ≡ with_interfaces n ((guid, value) ∷ []) (table_of rows slots number stamp places)) × IsStore rs new gs number (stamp + 1) places
   stored_more rs new gs n guid value key at live absent none there others c g t =
       let i : Interface = record { handle = n; guid = guid; value = value; stamp = stamp + 1 } in
       let more : installed_until (stamp + 1) new ≡ installed_until stamp slots ++ i ∷ [] =
       until_more stamp key slots new (record { interface = i; installed = stamp + 1; turn_place = at }) slots_below refl none there others in
-      let same : table_of rs new number (stamp + 1) ≡ with_interfaces n ((guid, value) ∷ []) (table_of rows slots number stamp) = rw (c.lives, more) refl in (
+      let same : table_of rs new number (stamp + 1) places ≡ with_interfaces n ((guid, value) ∷ []) (table_of rows slots number stamp places) = rw (c.lives, more) refl in (
         same,
         record {
-          table = subst IsTable (sym same) (table_with_interfaces (table_of rows slots number stamp) n ((guid, value) ∷ []) s.table live (absent, tt) refl);
+          table = subst IsTable (sym same) (table_with_interfaces (table_of rows slots number stamp places) n ((guid, value) ∷ []) s.table live (absent, tt) refl);
           filed = rw more (filed_more (installed_until stamp slots) slots new rows rs groups gs key i (ap (option_map (λ r. r.interface)) none) (ap (option_map (λ r. r.interface)) there)
               (at_others new key others) c (unkeyed n guid absent) g s.filed);
           turns = rw more (turns_more (installed_until stamp slots) groups gs i t s.turns);
@@ -467,16 +408,16 @@ module _ (rows : List Row) (slots : List (Option Record)) (groups : List Group) 
       → ChangesKeys n (filter (λ k. not (k == key))) rows rs
       → ((k : List ℕ) (m : ℕ) → key_at gs k m ≡ cond ((n == m) && same_guid guid k) None (key_at groups k m))
       → ChangesTurns guid (without_turn own) groups gs
-      → (table_of rs new number stamp ≡ record (table_of rows slots number stamp) { interfaces = filter (λ i. not (is_at n guid i)) (installed_until stamp slots) }) × IsStore rs new gs number stamp
+      → (table_of rs new number stamp places ≡ record (table_of rows slots number stamp places) { interfaces = filter (λ i. not (is_at n guid i)) (installed_until stamp slots) }) × IsStore rs new gs number stamp places
   stored_less rs new gs n guid key own there stamped none others c g t =
       let r = recorded n guid key there in
       let q : Interface → Bool = λ i. not (is_at n guid i) in
       let less : installed_until stamp new ≡ filter q (installed_until stamp slots) =
       until_less q stamp key slots new (λ r e. rw (own_key n guid key there r e) refl) (λ j r d e. rw (other_key n guid key there j r d e) refl) none others in
-      let same : table_of rs new number stamp ≡ record (table_of rows slots number stamp) { interfaces = filter q (installed_until stamp slots) } = rw (c.lives, less) refl in (
+      let same : table_of rs new number stamp places ≡ record (table_of rows slots number stamp places) { interfaces = filter q (installed_until stamp slots) } = rw (c.lives, less) refl in (
         same,
         record {
-          table = subst IsTable (sym same) (table_without_interface (table_of rows slots number stamp) n guid s.table);
+          table = subst IsTable (sym same) (table_without_interface (table_of rows slots number stamp places) n guid s.table);
           filed = rw less (filed_less (installed_until stamp slots) slots new rows rs groups gs n guid key there (ap (option_map (λ r. r.interface)) none) (at_others new key others) c g s.filed);
           turns = rw less (turns_less (installed_until stamp slots) groups gs n guid r.0.interface s.table.apart (keyed_record n guid key there r.0 r.1) (rw (stamp_at key r.0 own r.1 stamped) at t) s.turns);
           stamped = λ j r e. elim (cases_eq j key) [
@@ -500,7 +441,7 @@ module _ (rows : List Row) (slots : List (Option Record)) (groups : List Group) 
       → key_at groups guid n ≡ Some key → option_map (λ r. r.interface.stamp) (record_at slots key) ≡ Some before
       → record_at new key ≡ option_map (with_stamp value to) (record_at slots key) → ((j : ℕ) → j ≢ key → record_at new j ≡ record_at slots j)
       → ((k : List ℕ) (m : ℕ) → key_at gs k m ≡ key_at groups k m) → ChangesTurns guid (moved_turn n before to) groups gs
-      → (table_of rows new number stamp ≡ put_at n guid value to (table_of rows slots number stamp)) × IsStore rows new gs number stamp
+      → (table_of rows new number stamp places ≡ put_at n guid value to (table_of rows slots number stamp places)) × IsStore rows new gs number stamp places
   stored_put new gs n guid value to key before may given there stamped own others g t =
       let x = recorded n guid key there in
       let f : Interface → Interface = restamped n guid value to in
@@ -512,10 +453,10 @@ module _ (rows : List Row) (slots : List (Option Record)) (groups : List Group) 
       let changed : installed_until stamp new ≡ map f (installed_until stamp slots) =
       until_changed f stamp key slots new (changed_slot n guid value to (record_at slots key) (λ r e. own_key n guid key there r e) ∙ ap (tagged (λ i. i)) (sym own))
       (λ j r d e. rw (other_key n guid key there j r d e) refl) others in
-      let same : table_of rows new number stamp ≡ put_at n guid value to (table_of rows slots number stamp) = rw changed refl in (
+      let same : table_of rows new number stamp places ≡ put_at n guid value to (table_of rows slots number stamp places) = rw changed refl in (
         same,
         record {
-          table = subst IsTable (sym same) (table_put (table_of rows slots number stamp) n guid value to may given s.table);
+          table = subst IsTable (sym same) (table_put (table_of rows slots number stamp places) n guid value to may given s.table);
           filed = filed_same (installed_until stamp new) new gs g (rw changed (filed_changed (installed_until stamp slots) slots new rows groups n guid value to key there
               (λ y e. ap (option_map (λ r. r.interface)) own ∙ changed_there n guid value to (record_at slots key) (λ r k. own_key n guid key there r k) y e)
               (λ y e. new_there n guid value to (record_at slots key) (λ r k. own_key n guid key there r k) y (sym (ap (option_map (λ r. r.interface)) own) ∙ e))
@@ -548,13 +489,13 @@ module _ (rows : List Row) (slots : List (Option Record)) (groups : List Group) 
   given_if n guid (Some x) e = (found_one (λ i. i.stamp ≤ stamp) (is_at n guid) (installed_until stamp slots) x s.table.below (sym e)).1
 
   -- a stamp is given
-  pub stored_given : (table_of rows slots number (stamp + 1) ≡ record (table_of rows slots number stamp) { last_stamp = stamp + 1 }) × IsStore rows slots groups number (stamp + 1)
+  pub stored_given : (table_of rows slots number (stamp + 1) places ≡ record (table_of rows slots number stamp places) { last_stamp = stamp + 1 }) × IsStore rows slots groups number (stamp + 1) places
   stored_given =
       let same : installed_until (stamp + 1) slots ≡ installed_until stamp slots = until_later stamp slots slots_below in (
         rw same refl,
         record {
           table = record {
-            proper = record { ascending = s.table.proper.ascending; given = s.table.proper.given; limit = s.table.proper.limit; on_live = rw same s.table.proper.on_live };
+            proper = record { ascending = s.table.proper.ascending; given = s.table.proper.given; limit = s.table.proper.limit; places = s.table.proper.places; on_live = rw same s.table.proper.on_live };
             apart = rw same s.table.apart;
             below = rw same (all_map (λ i. i.stamp ≤ stamp) (λ i. i.stamp ≤ stamp + 1) (λ i l. omega (arith, l)) (installed_until stamp slots) s.table.below);
           };
@@ -571,20 +512,20 @@ module _ (rows : List Row) (slots : List (Option Record)) (groups : List Group) 
       subst (AllByRecursion (λ n. n < number + 1)) (live_numbers rows)
       (all_map (λ m. (0 < m) × (m ≤ number)) (λ m. m < number + 1) (λ m h. omega (arith, h.1)) (map (λ h. h.number) (lives rows)) s.table.proper.given)
 
-  pub live_row : (n : ℕ) → is_live (table_of rows slots number stamp) n ≡ true → is_some (find (is_row_of n) rows) ≡ true
+  pub live_row : (n : ℕ) → is_live (table_of rows slots number stamp places) n ≡ true → is_some (find (is_row_of n) rows) ≡ true
   live_row n l = sym (ap is_some (find_lives n rows) ∙ some_map (λ r. r.live) (find (is_row_of n) rows)) ∙ l
 
   -- a handle comes
-  pub stored_handle : (maker : Option Maker) → length (lives rows) < max_in_table
-      → (table_of (rows ++ record { live = record { number = number + 1; maker = maker }; keys = [] } ∷ []) slots (number + 1) stamp ≡ with_handle maker (table_of rows slots number stamp))
-      × IsStore (rows ++ record { live = record { number = number + 1; maker = maker }; keys = [] } ∷ []) slots groups (number + 1) stamp
+  pub stored_handle : (maker : Option Maker) → length (lives rows) < places
+      → (table_of (rows ++ record { live = record { number = number + 1; maker = maker }; keys = [] } ∷ []) slots (number + 1) stamp places ≡ with_handle maker (table_of rows slots number stamp places))
+      × IsStore (rows ++ record { live = record { number = number + 1; maker = maker }; keys = [] } ∷ []) slots groups (number + 1) stamp places
   stored_handle maker room =
       let live : LiveHandle = record { number = number + 1; maker = maker } in
-      let same : table_of (rows ++ record { live = live; keys = [] } ∷ []) slots (number + 1) stamp ≡ with_handle maker (table_of rows slots number stamp) =
+      let same : table_of (rows ++ record { live = live; keys = [] } ∷ []) slots (number + 1) stamp places ≡ with_handle maker (table_of rows slots number stamp places) =
       rw (map_append (λ r. r.live) rows (record { live = live; keys = [] } ∷ [])) refl in (
         same,
         record {
-          table = subst IsTable (sym same) (table_with_handle (table_of rows slots number stamp) maker s.table room);
+          table = subst IsTable (sym same) (table_with_handle (table_of rows slots number stamp places) maker s.table room);
           filed = record { by_handle = λ n. rw (keys_push rows live n) (s.filed.by_handle n); by_guid = s.filed.by_guid; in_group = s.filed.in_group };
           turns = s.turns;
           stamped = s.stamped;
@@ -607,13 +548,13 @@ module _ (rows : List Row) (slots : List (Option Record)) (groups : List Group) 
 
   -- a handle without interfaces goes
   pub stored_bare : (n : ℕ) → list_any (is_on n) (installed_until stamp slots) ≡ false
-      → (table_of (filter (λ r. not (is_row_of n r)) rows) slots number stamp ≡ without_handle n (table_of rows slots number stamp)) × IsStore (filter (λ r. not (is_row_of n r)) rows) slots groups number stamp
+      → (table_of (filter (λ r. not (is_row_of n r)) rows) slots number stamp places ≡ without_handle n (table_of rows slots number stamp places)) × IsStore (filter (λ r. not (is_row_of n r)) rows) slots groups number stamp places
   stored_bare n bare =
       let left : lives (filter (λ r. not (is_row_of n r)) rows) ≡ filter (λ h. not (has_number n h)) (lives rows) = filter_map_filter (λ r. r.live) (λ h. not (has_number n h)) rows in
-      let same : table_of (filter (λ r. not (is_row_of n r)) rows) slots number stamp ≡ without_handle n (table_of rows slots number stamp) = rw (left, none_goes n (installed_until stamp slots) bare) refl in (
+      let same : table_of (filter (λ r. not (is_row_of n r)) rows) slots number stamp places ≡ without_handle n (table_of rows slots number stamp places) = rw (left, none_goes n (installed_until stamp slots) bare) refl in (
         same,
         record {
-          table = subst IsTable (sym same) (table_without_handle (table_of rows slots number stamp) n s.table);
+          table = subst IsTable (sym same) (table_without_handle (table_of rows slots number stamp places) n s.table);
           filed = record { by_handle = λ m. rw (keys_without rows n m (bare_keys n bare)) (s.filed.by_handle m); by_guid = s.filed.by_guid; in_group = s.filed.in_group };
           turns = s.turns;
           stamped = s.stamped;
@@ -623,13 +564,14 @@ module _ (rows : List Row) (slots : List (Option Record)) (groups : List Group) 
   -- ---- taken back
 
   -- the last number is given again, if no handle has it
-  pub stored_unmade : (last : ℕ) → AllByRecursion (λ n. n ≤ last) (map (λ h. h.number) (lives rows)) → IsStore rows slots groups last stamp
+  pub stored_unmade : (last : ℕ) → AllByRecursion (λ n. n ≤ last) (map (λ h. h.number) (lives rows)) → IsStore rows slots groups last stamp places
   stored_unmade last below = record {
     table = record {
       proper = record {
         ascending = s.table.proper.ascending;
         given = all_both (λ m. (0 < m) × (m ≤ number)) (λ m. m ≤ last) (λ m. (0 < m) × (m ≤ last)) (λ m h l. (h.0, l)) (map (λ h. h.number) (lives rows)) s.table.proper.given below;
         limit = s.table.proper.limit;
+        places = s.table.proper.places;
         on_live = s.table.proper.on_live;
       };
       apart = s.table.apart;
@@ -642,7 +584,7 @@ module _ (rows : List Row) (slots : List (Option Record)) (groups : List Group) 
 
   -- the last stamp is given again, if no interface has it
   pub stored_back : (last : ℕ) → stamp ≡ last + 1 → AllByRecursion (λ i. i.stamp < stamp) (installed_until stamp slots)
-      → (installed_until last slots ≡ installed_until stamp slots) × IsStore rows slots groups number last
+      → (installed_until last slots ≡ installed_until stamp slots) × IsStore rows slots groups number last places
   stored_back last e below =
       let under : AreBelow last slots = λ j r w.
       let f = slot_found j r.interface (ap (option_map (λ (x : Record). x.interface)) w) in
@@ -652,7 +594,7 @@ module _ (rows : List Row) (slots : List (Option Record)) (groups : List Group) 
         same,
         record {
           table = record {
-            proper = record { ascending = s.table.proper.ascending; given = s.table.proper.given; limit = s.table.proper.limit; on_live = rw same s.table.proper.on_live };
+            proper = record { ascending = s.table.proper.ascending; given = s.table.proper.given; limit = s.table.proper.limit; places = s.table.proper.places; on_live = rw same s.table.proper.on_live };
             apart = rw same s.table.apart;
             below = rw same (all_map (λ i. i.stamp < stamp) (λ i. i.stamp ≤ last) (λ i l. omega (arith, l, e)) (installed_until stamp slots) below);
           };
@@ -664,25 +606,25 @@ module _ (rows : List Row) (slots : List (Option Record)) (groups : List Group) 
 
   -- ---- by the tables before
 
-  pub unmade : (t : HandleTable) → table_of rows slots number stamp ≡ without_handle t.last_number t → AllByRecursion (λ n. n < t.last_number) (filter (λ n. not (n == t.last_number)) (numbers t))
-      → IsStore rows slots groups (number - 1) stamp
+  pub unmade : (t : HandleTable) → table_of rows slots number stamp places ≡ without_handle t.last_number t → AllByRecursion (λ n. n < t.last_number) (filter (λ n. not (n == t.last_number)) (numbers t))
+      → IsStore rows slots groups (number - 1) stamp places
   unmade t e below =
       let last : number ≡ t.last_number = ap (λ (x : HandleTable). x.last_number) e in
       let left : map (λ h. h.number) (lives rows) ≡ filter (λ n. not (n == t.last_number)) (numbers t) =
       ap (λ (x : HandleTable). numbers x) e ∙ filter_map_filter (λ (h : LiveHandle). h.number) (λ n. not (n == t.last_number)) t.handles in
       stored_unmade (number - 1) (rw left (all_map (λ n. n < t.last_number) (λ n. n ≤ number - 1) (λ n l. omega (arith, l, last)) (filter (λ n. not (n == t.last_number)) (numbers t)) below))
 
-  pub taken_back : (t : HandleTable) (is : List Interface) → table_of rows slots number stamp ≡ record t { interfaces = is } → AllByRecursion (λ i. i.stamp < t.last_stamp) is → 0 < t.last_stamp
-      → (table_of rows slots number (stamp - 1) ≡ record t { interfaces = is; last_stamp = t.last_stamp - 1 }) × IsStore rows slots groups number (stamp - 1)
+  pub taken_back : (t : HandleTable) (is : List Interface) → table_of rows slots number stamp places ≡ record t { interfaces = is } → AllByRecursion (λ i. i.stamp < t.last_stamp) is → 0 < t.last_stamp
+      → (table_of rows slots number (stamp - 1) places ≡ record t { interfaces = is; last_stamp = t.last_stamp - 1 }) × IsStore rows slots groups number (stamp - 1) places
   taken_back t is e below some =
       let last : stamp ≡ t.last_stamp = ap (λ (x : HandleTable). x.last_stamp) e in
       let these : installed_until stamp slots ≡ is = ap (λ (x : HandleTable). x.interfaces) e in
       let b = stored_back (stamp - 1) (omega (arith, last, some)) (rw (these, last) below) in
-      let back : table_of rows slots number (stamp - 1) ≡ record (table_of rows slots number stamp) { last_stamp = stamp - 1 } = rw b.0 refl in
+      let back : table_of rows slots number (stamp - 1) places ≡ record (table_of rows slots number stamp places) { last_stamp = stamp - 1 } = rw b.0 refl in
       (back ∙ ap (λ (x : HandleTable). record x { last_stamp = x.last_stamp - 1 }) e, b.1)
 
   -- groups with the same keys and turns
-  pub stored_same : (gs : List Group) → ((k : List ℕ) (n : ℕ) → key_at gs k n ≡ key_at groups k n) → HaveSameTurns groups gs → IsStore rows slots gs number stamp
+  pub stored_same : (gs : List Group) → ((k : List ℕ) (n : ℕ) → key_at gs k n ≡ key_at groups k n) → HaveSameTurns groups gs → IsStore rows slots gs number stamp places
   stored_same gs g t = record {
     table = s.table;
     filed = filed_same (installed_until stamp slots) slots gs g s.filed;
@@ -690,8 +632,8 @@ module _ (rows : List Row) (slots : List (Option Record)) (groups : List Group) 
     stamped = s.stamped;
   }
 
-  pub stored_kept : (n : ℕ) (guid : List ℕ) → key_at groups guid n ≡ None → table_of rows slots number stamp ≡ record (table_of rows slots number stamp) { interfaces = filter (λ i. not (is_at n guid i)) (installed_until stamp slots) }
-  stored_kept n guid none = ap (λ is. record (table_of rows slots number stamp) { interfaces = is }) (stored_none n guid none)
+  pub stored_kept : (n : ℕ) (guid : List ℕ) → key_at groups guid n ≡ None → table_of rows slots number stamp places ≡ record (table_of rows slots number stamp places) { interfaces = filter (λ i. not (is_at n guid i)) (installed_until stamp slots) }
+  stored_kept n guid none = ap (λ is. record (table_of rows slots number stamp places) { interfaces = is }) (stored_none n guid none)
 
-  pub uncarried : (n : ℕ) (guid : List ℕ) → key_at groups guid n ≡ None → carries (table_of rows slots number stamp) guid n ≡ true → ⊥
+  pub uncarried : (n : ℕ) (guid : List ℕ) → key_at groups guid n ≡ None → carries (table_of rows slots number stamp places) guid n ≡ true → ⊥
   uncarried n guid none h = let w : false ≡ true = sym (ap is_some (stored_at n guid ∙ ap (option_and_then (at_key slots)) none)) ∙ h in cc

@@ -7,13 +7,14 @@ use Rattle.guid_handles.specs.declared.records.LiveHandle.{LiveHandle}
 use Rattle.guid_handles.specs.declared.records.Interface.{Interface}
 use Rattle.guid_handles.specs.declared.records.Maker.{Maker}
 
--- The live handles by ascending number, the interfaces in order of installation, and the last
--- number and the last stamp given.
+-- The live handles by ascending number, the interfaces in order of installation, the last number
+-- and the last stamp given, and for how many handles there are places.
 pub record HandleTable : Type 0 where
   pub handles : List LiveHandle
   pub interfaces : List Interface
   pub last_number : ℕ
   pub last_stamp : ℕ
+  pub places : ℕ
 
 -- two GUIDs are the same, byte for byte
 abbrev pub same_guid : List ℕ → List ℕ → Bool

@@ -1,5 +1,5 @@
 //! Places in blocks, which are found by number.
-ghost use Rattle.std.specs.Prelude.{◌≡◌, ◌<◌, ◌≤◌, ◌/◌, ◌%◌, ◌==◌, ◌||◌, ℕ, [], None, is_some, length, nat_lt, slice_get, IfOk, OnOk, OnErr, IfSome, IfNone};
+ghost use Rattle.std.specs.Prelude.{◌≡◌, ◌<◌, ◌≤◌, ◌/◌, ◌%◌, ◌==◌, ℕ, [], None, is_some, length, nat_lt, slice_get, IfOk, OnOk, OnErr, IfSome, IfNone};
 ghost use Rattle.std.specs.List.{find};
 ghost use Rattle.guid_handles.specs.Sorting.{Ascending, kept_if, place};
 ghost use Rattle.guid_handles.specs.Blocks.{AscendByNumber, ChangesBlock, ChangesBlocks, IsFree, IsPlaceOf, block_at, group_size, is_numbered, with_last, without_place};

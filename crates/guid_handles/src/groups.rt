@@ -1,9 +1,8 @@
 //! The interfaces by GUID.
-ghost use Rattle.std.specs.Prelude.{◌≡◌, ◌<◌, ◌≤◌, ◌==◌, ◌&&◌, ℕ, Bool, true, false, not, cond, List, [], None, Some, length, nat_lt, is_some, map, option_map, slice_get, IfOk, OnOk, OnErr, IfSome, IfNone};
+ghost use Rattle.std.specs.Prelude.{◌≡◌, ◌<◌, ◌≤◌, ◌==◌, ℕ, true, false, not, List, [], None, Some, length, is_some, option_map, slice_get, IfOk, OnOk, OnErr, IfSome, IfNone};
 ghost use Rattle.std.specs.List.{filter, find, list_any, AllByRecursion};
-ghost use Rattle.guid_handles.specs.HandleTables.{same_guid};
 ghost use Rattle.guid_handles.specs.Sorting.{Ascending, place, kept_if};
-ghost use Rattle.guid_handles.specs.Indexes.{AreInTurn, AscendByGuid, ChangesTurns, HaveSameKeys, HaveSameTurns, IsPlaceOf, SetsKey, is_bare, is_before, is_group_of, key_at, key_in, turns_of, with_turn, without_turn};
+ghost use Rattle.guid_handles.specs.Indexes.{AreInTurn, AscendByGuid, ChangesTurns, HaveSameKeys, HaveSameTurns, IsPlaceOf, SetsKey, is_bare, is_before, is_group_of, key_at, turns_of, with_turn, without_turn};
 ghost use Rattle.guid_handles.specs.TurnSteps.{moved_turn, turn_after};
 
 use crate::guid_group::GuidGroup;

@@ -1,5 +1,5 @@
 //! The interfaces of one GUID.
-ghost use Rattle.std.specs.Prelude.{◌≡◌, ◌<◌, ◌==◌, ◌≤◌, ℕ, [], true, false, cond, length, nat_lt, option_map, None, Some, IfOk, OnOk, OnErr};
+ghost use Rattle.std.specs.Prelude.{◌≡◌, ◌<◌, ◌==◌, [], true, false, length, None, Some, IfOk, OnOk, OnErr};
 ghost use Rattle.std.specs.List.{find, list_any, AllByRecursion};
 ghost use Rattle.guid_handles.specs.Sorting.{Ascending};
 ghost use Rattle.guid_handles.specs.Indexes.{AreInTurn, SetsKeyIn, is_bare, key_in, with_turn, without_turn};

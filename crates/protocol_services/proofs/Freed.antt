@@ -254,7 +254,7 @@ replaced_below ds l mid new handle guid value given events m e c r =
 
 pub below_raised : (ds : List Meaning) (l mid new : Lists) (handle : ℕ) (guid : List ℕ) (value : ℕ) (given events : List ℕ) → mid ≡ replaced handle guid value (freed handle guid l)
     → ConnectsBelow (site ds mid.registrations handle) mid.handles mid.opens given events new.handles new.opens → new.registrations ≡ mid.registrations
-    → new.handles.last_number ≤ mid.handles.last_number + 8192 → new.handles.last_stamp ≤ mid.handles.last_stamp + 32768 → IsRaised l new
+    → new.handles.last_number ≤ mid.handles.last_number + 4096 → new.handles.last_stamp ≤ mid.handles.last_stamp + 16384 → IsRaised l new
 below_raised ds l mid new handle guid value given events m c r numbers stamps =
     let part : IsPart l (freed handle guid l) = freed_part l handle guid in
     let number : mid.handles.last_number ≡ l.handles.last_number = ap (λ (x : Lists). x.handles.last_number) m ∙ part.numbers in
@@ -281,7 +281,7 @@ connected_freed ds l new plan handle guid value given events t opens p h o e c r
 pub connected_freed_raised : (ds : List Meaning) (l new : Lists) (plan : PlannedStop) (handle : ℕ) (guid : List ℕ) (value : ℕ) (given events : List ℕ) (t : HandleTable) (opens : List OpenRecord)
     → plan ≡ planned_stop l.handles l.opens (drivers_on l.opens handle guid) → t ≡ without_handles plan.handles l.handles → opens ≡ without_items (is_open_on handle guid) (without_opens plan.handles plan.pairs l.opens)
     → ConnectsBelow (site ds l.registrations handle) (with_value handle guid value t) opens given events new.handles new.opens → new.registrations ≡ l.registrations
-    → new.handles.last_number ≤ t.last_number + 8192 → new.handles.last_stamp ≤ t.last_stamp + 32769 → IsRaised l new
+    → new.handles.last_number ≤ t.last_number + 4096 → new.handles.last_stamp ≤ t.last_stamp + 16385 → IsRaised l new
 connected_freed_raised ds l new plan handle guid value given events t opens p h o c r numbers stamps =
     below_raised ds l (record l { handles = with_value handle guid value t; opens = opens }) new handle guid value given events (replaced_in_place l plan handle guid value t (with_value handle guid value t) opens p h refl o) c r
     numbers (omega (arith, stamps))
@@ -297,7 +297,7 @@ freed_or_not ds l new plan handle guid value given (Err error) t opens p h o e c
 pub freed_raised_or_not : {A : Type 0} {E : Type 0} (ds : List Meaning) (l new : Lists) (plan : PlannedStop) (handle : ℕ) (guid : List ℕ) (value : ℕ) (given : List ℕ) (result : Result (Vec ℕ A) E) (t : HandleTable) (opens : List OpenRecord)
     → plan ≡ planned_stop l.handles l.opens (drivers_on l.opens handle guid) → t ≡ without_handles plan.handles l.handles → opens ≡ without_items (is_open_on handle guid) (without_opens plan.handles plan.pairs l.opens)
     → IfOk result (λ events. ConnectsBelow (site ds l.registrations handle) (with_value handle guid value t) opens given events.items new.handles new.opens) → new.registrations ≡ l.registrations
-    → new.handles.last_number ≤ t.last_number + 8192 → new.handles.last_stamp ≤ t.last_stamp + 32769 → OnOk result (IsRaised l new)
+    → new.handles.last_number ≤ t.last_number + 4096 → new.handles.last_stamp ≤ t.last_stamp + 16385 → OnOk result (IsRaised l new)
 freed_raised_or_not ds l new plan handle guid value given (Ok events) t opens p h o c r numbers stamps = connected_freed_raised ds l new plan handle guid value given events.items t opens p h o c r numbers stamps
 freed_raised_or_not ds l new plan handle guid value given (Err error) t opens p h o c r numbers stamps = tt
 

@@ -1,7 +1,7 @@
 -- The rules of the protocol services keep their lists proper.
 use Rattle.std.proofs.Common.{◌≡◌, ℕ, ◌==◌, ◌&&◌, ◌||◌, nat_lt, not, Bool, true, false, List, [], ◌∷◌, length, Option, Some, None, Result, Ok, Err, inl, inr, refl, sym, ◌∙◌, subst}
 use Rattle.std.specs.List.{filter, list_any, list_all}
-use Rattle.std.proofs.lemmas.Bool.{cases_Bool, and_parts, or_parts}
+use Rattle.std.proofs.lemmas.Bool.{cases_Bool, and_parts, not-true, or_parts}
 use Rattle.std.proofs.lemmas.Bool.Decides.{eqb_tells}
 use Rattle.page_ranges.specs.declared.statuses.Status.{Status}
 use Rattle.page_ranges.specs.declared.statuses.Status.TheVariants as status
@@ -22,13 +22,13 @@ use Rattle.protocol_services.specs.Stopping.{once_stopped}
 use Rattle.protocol_services.specs.ProperLists.{AreProperLists}
 use Rattle.protocol_services.proofs.ProperTables.{IsProperTable, filtered_proper, installed_live, installed_proper, live_filtered, not_dead}
 use Rattle.protocol_services.proofs.ProperItems.{all_named, stopped_apart, stopped_named}
-use Rattle.protocol_services.proofs.ProperStarts.{IsProper, not_so}
+use Rattle.protocol_services.proofs.ProperStarts.{IsProper}
 
 pub parts_proper : (l : Lists) → AreProperLists l → IsProper l.handles l.opens
-parts_proper l s = record { table = record { table = s.table; limit = s.limit; guids = s.guids }; names = s.names; holders = s.holders }
+parts_proper l s = record { table = record { table = s.table; limit = s.limit; places = s.places; guids = s.guids }; names = s.names; holders = s.holders }
 
 pub lists_proper : (l : Lists) → IsProper l.handles l.opens → AreProperLists l
-lists_proper l s = record { table = s.table.table; limit = s.table.limit; guids = s.table.guids; names = s.names; holders = s.holders }
+lists_proper l s = record { table = s.table.table; limit = s.table.limit; places = s.table.places; guids = s.table.guids; names = s.names; holders = s.holders }
 
 pub same : (old new : Lists) → AreProperLists old → new ≡ old → AreProperLists new
 same old new s e = subst AreProperLists (sym e) s
@@ -175,10 +175,10 @@ handle_spared ds t opens set handle opener h =
     let a = and_parts (list_all (may_stop ds t opens) set) (is_unobstructed t opens set && (not (is_made_by t set handle) && spares_opener t set opener)) h in
     let b = and_parts (is_unobstructed t opens set) (not (is_made_by t set handle) && spares_opener t set opener) a.1 in
     let c = and_parts (not (is_made_by t set handle)) (spares_opener t set opener) b.1 in
-    (not_so (is_made_by t set handle) c.0, c.1)
+    (not-true (is_made_by t set handle) c.0, c.1)
 
 pub opener_spared : (t : HandleTable) (set : List Manager) (agent controller : ℕ) → spares_opener t set (opened_by agent controller) ≡ true → (is_made_by t set agent ≡ false) × (is_made_by t set controller ≡ false)
 opener_spared t set agent controller h =
     let a = and_parts (not (has_agent set agent)) (not (is_made_by t set agent) && not (is_made_by t set controller)) h in
     let b = and_parts (not (is_made_by t set agent)) (not (is_made_by t set controller)) a.1 in
-    (not_so (is_made_by t set agent) b.0, not_so (is_made_by t set controller) b.1)
+    (not-true (is_made_by t set agent) b.0, not-true (is_made_by t set controller) b.1)

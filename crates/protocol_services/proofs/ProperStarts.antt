@@ -1,11 +1,11 @@
 -- Connecting keeps handles and open items proper, and takes out no handle.
-use Rattle.std.proofs.Common.{◌≡◌, ℕ, zero, suc, ◌+◌, ◌≤◌, ◌==◌, ◌&&◌, nat_le, nat_lt, not, Bool, true, false, List, [], ◌∷◌, length, Option, Some, None, is_some, inl, inr, refl}
-use Rattle.std.specs.List.{find, list_all, cons_option, AllByRecursion}
+use Rattle.std.proofs.Common.{◌≡◌, ℕ, zero, suc, ◌==◌, nat_lt, Bool, true, false, List, [], ◌∷◌, length, Option, Some, None, is_some, inl, inr, refl}
+use Rattle.std.specs.List.{find, cons_option, AllByRecursion}
 use Rattle.std.specs.Option.{option_map}
-use Rattle.std.proofs.lemmas.Bool.{cases_Bool, and_parts, leb-true}
+use Rattle.std.proofs.lemmas.Bool.{cases_Bool}
 use Rattle.guid_handles.specs.declared.records.Interface.{Interface}
 use Rattle.guid_handles.specs.HandleTables.{HandleTable, numbers, is_at, is_live, holders_of}
-use Rattle.guid_handles.specs.HandleChanges.{max_handles, is_dead}
+use Rattle.guid_handles.specs.HandleChanges.{is_dead}
 use Rattle.guid_handles.specs.Sorting.{Ascending, kept_if}
 use Rattle.guid_handles.proofs.Found.{carried_live, numbers_live}
 use Rattle.guid_handles.proofs.SortedLists.{all_map, all_append, all_filter, all_insert}
@@ -13,12 +13,11 @@ use Rattle.open_agents.specs.declared.items.OpenRecord.{OpenRecord}
 use Rattle.open_agents.specs.OpenItems.{with_item}
 use Rattle.protocol_notify.specs.declared.notify.Registration.{Registration}
 use Rattle.driver_connect.specs.declared.agents.Agent.{Agent}
-use Rattle.driver_connect.specs.declared.view.ProtocolView.{ProtocolView}
-use Rattle.driver_connect.specs.Drivers.{Meaning, Plan, agent_of, driver_binding, is_free, protocols_on, version_at}
-use Rattle.driver_connect.specs.Starting.{Progress, Site, site, after_turn, agents_for, by_version, can_start, carried_out, has_twice, is_carried_out, is_child, is_listed, is_supported, left_of, other, others_among, pass, passes, plan_for, starts_on, turn, with_agent, with_all_named, with_driver_items, with_named}
+use Rattle.driver_connect.specs.Drivers.{Meaning, Plan, agent_of, driver_binding, protocols_on, version_at}
+use Rattle.driver_connect.specs.Starting.{Progress, Site, site, after_turn, agents_for, by_version, can_start, carried_out, is_carried_out, is_listed, is_supported, left_of, other, others_among, pass, passes, plan_for, starts_on, turn, with_agent, with_all_named, with_driver_items, with_named}
 use Rattle.driver_connect.specs.Connecting.{connected, for_each, made_after}
 use Rattle.driver_connect.proofs.Opened.{AreToOpen, next_opened}
-use Rattle.driver_connect.proofs.Passes.{planned_unheld}
+use Rattle.driver_connect.proofs.Passes.{planned_unheld, sound_plan}
 use Rattle.protocol_services.specs.ProperLists.{NamesLive, HoldApart}
 use Rattle.protocol_services.proofs.ProperTables.{IsProperTable, children_live, children_proper}
 use Rattle.protocol_services.proofs.ProperItems.{all_named, with_item_named, with_item_apart}
@@ -57,25 +56,6 @@ items_apart : (n agent : ℕ) (guids : List (List ℕ)) (opens : List OpenRecord
 items_apart n agent [] opens a s = s
 items_apart n agent (g ∷ gs) opens a s =
     items_apart n agent gs (with_item n g agent n 0x10 opens) (next_opened n opens g gs agent a) (with_item_apart n g agent n 0x10 opens (λ e k. a.free.0) s)
-
-pub not_so : (b : Bool) → not b ≡ true → b ≡ false
-not_so true h = cc
-not_so false h = refl
-
--- what is known of a plan that can be carried out
-record IsSound (t : HandleTable) (plan : Plan) : Type 0 where
-  once : has_twice plan.opens ≡ false
-  children : list_all is_child plan.children ≡ true
-  room : length t.handles + length plan.children ≤ max_handles
-
-sound_plan : (t : HandleTable) (protocols : List ProtocolView) (plan : Plan) → can_start t protocols plan ≡ true → IsSound t plan
-sound_plan t protocols plan h =
-    let room : Bool = nat_le (length t.handles + length plan.children) max_handles in
-    let a = and_parts (not (length plan.opens == 0)) (not (has_twice plan.opens) && (list_all (is_free protocols) plan.opens && (list_all is_child plan.children && room))) h in
-    let b = and_parts (not (has_twice plan.opens)) (list_all (is_free protocols) plan.opens && (list_all is_child plan.children && room)) a.1 in
-    let c = and_parts (list_all (is_free protocols) plan.opens) (list_all is_child plan.children && room) b.1 in
-    let d = and_parts (list_all is_child plan.children) room c.1 in
-    record { once = not_so (has_twice plan.opens) b.0; children = d.0; room = leb-true (length t.handles + length plan.children) max_handles d.1 }
 
 carried_comes : (rs : List Registration) (n agent : ℕ) (plan : Plan) (p : Progress) → IsProper p.handles p.opens → is_live p.handles n ≡ true → is_live p.handles agent ≡ true
     → can_start p.handles (protocols_on p.handles p.opens n) plan ≡ true → Comes p (carried_out rs n agent plan p)

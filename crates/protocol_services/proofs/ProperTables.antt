@@ -1,32 +1,31 @@
 -- Changes of a handle table that keep it proper, and which handles stay live.
-use Rattle.std.proofs.Common.{◌≡◌, ℕ, ◌+◌, ◌<◌, ◌≤◌, ◌==◌, nat_eq, nat_lt, not, Bool, true, false, List, [], ◌∷◌, ◌++◌, length, Option, Some, None, is_some, inl, inr, refl, sym, ap, ◌∙◌, subst, append-nil, arith, length-append}
-use Rattle.std.specs.List.{filter, list_any, list_all, AllByRecursion}
+use Rattle.std.proofs.Common.{◌≡◌, ℕ, ◌+◌, ◌<◌, ◌≤◌, ◌==◌, nat_lt, not, Bool, true, false, List, [], ◌∷◌, ◌++◌, length, Option, Some, None, is_some, inl, inr, refl, sym, ap, ◌∙◌, subst, append-nil, arith, length-append}
+use Rattle.std.specs.List.{filter, list_any, list_all}
 use Rattle.std.proofs.lemmas.Bool.{cases_Bool, ltb-true}
 use Rattle.std.proofs.lemmas.Bool.Decides.{eqb_tells}
 use Rattle.guid_handles.specs.declared.records.Interface.{Interface}
 use Rattle.guid_handles.specs.declared.records.LiveHandle.{LiveHandle}
 use Rattle.guid_handles.specs.declared.records.Maker.{Maker}
-use Rattle.guid_handles.specs.HandleTables.{HandleTable, numbers, is_on, is_at, is_live, has_number}
-use Rattle.guid_handles.specs.HandleChanges.{IsHandleTable, max_handles, has_guid_twice, installed, is_dead, is_taken, past_limit, restamped, stamped, unless_bare, with_handle, with_interfaces, with_value, without_interface}
-use Rattle.guid_handles.specs.Indexes.{AreOn, AreAbsent}
+use Rattle.guid_handles.specs.HandleTables.{HandleTable, is_on, is_at, is_live, has_number}
+use Rattle.guid_handles.specs.HandleChanges.{IsHandleTable, max_handles, max_in_table, has_guid_twice, installed, is_dead, is_taken, past_limit, restamped, stamped, unless_bare, with_handle, with_interfaces, with_value, without_interface}
+use Rattle.guid_handles.specs.Indexes.{AreAbsent}
 use Rattle.guid_handles.specs.Sorting.{Ascending}
-use Rattle.guid_handles.proofs.SortedLists.{all_map, all_mapped, all_push, all_append, all_filter, all_filtered, any_found, any_push, any_kept, filter_map_filter, filter_shorter, map_append, ascending_filter, ascending_map, ascending_push, find_filter, found_none}
+use Rattle.guid_handles.proofs.SortedLists.{any_found, any_push, filter_shorter, ascending_filter, ascending_map, ascending_push, find_filter, found_none}
 use Rattle.guid_handles.proofs.Indexed.{restamped_handle, restamped_guid}
-use Rattle.guid_handles.proofs.Stored.{absent_from, absent_on_new, live_number, new_is_live}
+use Rattle.guid_handles.proofs.ProperChanges.{fewer_handles, fewer_interfaces, filtered, more_interfaces, one_more, with_stamps}
+use Rattle.guid_handles.proofs.Stored.{absent_from, absent_on_new, new_is_live}
 use Rattle.driver_connect.specs.Starting.{is_child, with_child, with_children}
 use Rattle.protocol_services.specs.ProperLists.{AreApart}
 use Rattle.protocol_services.proofs.NewInterfaces.{next_added}
 
--- a handle table with no more handles than may be live, and no GUID twice on a handle
+-- a handle table with no more handles than may be live, places for as many again, and no GUID twice on a handle
 pub record IsProperTable (t : HandleTable) : Type 0 where
   pub table : IsHandleTable t
   pub limit : length t.handles ≤ max_handles
+  pub places : t.places ≡ max_in_table
   pub guids : Ascending AreApart t.interfaces
 
 -- ---- fewer
-
-abbrev pub filtered : (ℕ → Bool) → HandleTable → HandleTable
-filtered p t = record t { handles = filter (λ h. p h.number) t.handles; interfaces = filter (λ i. p i.handle) t.interfaces }
 
 same_number : (n : ℕ) (p : ℕ → Bool) → p n ≡ true → (l : LiveHandle) → has_number n l ≡ true → p l.number ≡ true
 same_number n p h l e = elim (eqb_tells l.number n) [
@@ -38,34 +37,19 @@ same_number n p h l e = elim (eqb_tells l.number n) [
 pub live_filtered : (p : ℕ → Bool) (t : HandleTable) (n : ℕ) → is_live t n ≡ true → p n ≡ true → is_live (filtered p t) n ≡ true
 live_filtered p t n h k = ap is_some (find_filter (has_number n) (λ l. p l.number) true (same_number n p k) t.handles) ∙ h
 
-left_on_live : (p : ℕ → Bool) (ns : List ℕ) (is : List Interface) → AreOn ns is → AreOn (filter p ns) (filter (λ i. p i.handle) is)
-left_on_live p ns is a =
-    all_filtered (λ i. list_any (λ m. nat_eq m i.handle) (filter p ns) ≡ true) (λ i. list_any (λ m. nat_eq m i.handle) ns ≡ true) (λ i. p i.handle)
-    (λ i k h. any_kept i.handle p ns k h) is a
-
 pub filtered_proper : (p : ℕ → Bool) (t : HandleTable) → IsProperTable t → IsProperTable (filtered p t)
-filtered_proper p t s =
-    let e : numbers (filtered p t) ≡ filter p (numbers t) = filter_map_filter (λ (h : LiveHandle). h.number) p t.handles in
-    record {
-      table = record {
-        ascending = rw e (ascending_filter (λ a b. a < b) p (numbers t) s.table.ascending);
-        given = rw e (all_filter (λ m. (0 < m) × (m ≤ t.last_number)) p (numbers t) s.table.given);
-        limit = omega (arith, s.table.limit, filter_shorter (λ h. p h.number) t.handles);
-        on_live = rw e (left_on_live p (numbers t) t.interfaces s.table.on_live);
-      };
-      limit = omega (arith, s.limit, filter_shorter (λ h. p h.number) t.handles);
-      guids = ascending_filter AreApart (λ i. p i.handle) t.interfaces s.guids;
-    }
+filtered_proper p t s = record {
+  table = fewer_handles p t s.table;
+  limit = omega (arith, s.limit, filter_shorter (λ h. p h.number) t.handles);
+  places = s.places;
+  guids = ascending_filter AreApart (λ i. p i.handle) t.interfaces s.guids;
+}
 
 pub fewer_proper : (p : Interface → Bool) (t : HandleTable) → IsProperTable t → IsProperTable (record t { interfaces = filter p t.interfaces })
 fewer_proper p t s = record {
-  table = record {
-    ascending = s.table.ascending;
-    given = s.table.given;
-    limit = s.table.limit;
-    on_live = all_filter (λ i. list_any (λ m. nat_eq m i.handle) (numbers t) ≡ true) p t.interfaces s.table.on_live;
-  };
+  table = fewer_interfaces p t s.table;
   limit = s.limit;
+  places = s.places;
   guids = ascending_filter AreApart p t.interfaces s.guids;
 }
 
@@ -93,22 +77,13 @@ restamped_apart n guid value stamp i j h =
 
 pub with_value_proper : (n : ℕ) (guid : List ℕ) (value : ℕ) (t : HandleTable) → IsProperTable t → IsProperTable (with_value n guid value t)
 with_value_proper n guid value t s = record {
-  table = record {
-    ascending = s.table.ascending;
-    given = s.table.given;
-    limit = s.table.limit;
-    on_live = all_mapped (λ i. list_any (λ m. nat_eq m i.handle) (numbers t) ≡ true) (λ i. list_any (λ m. nat_eq m i.handle) (numbers t) ≡ true) (restamped n guid value (t.last_stamp + 1))
-        (λ i h. rw (restamped_handle n guid value (t.last_stamp + 1) i) h) t.interfaces s.table.on_live;
-  };
+  table = with_stamps n guid value (t.last_stamp + 1) (t.last_stamp + 1) t s.table;
   limit = s.limit;
+  places = s.places;
   guids = ascending_map AreApart AreApart (restamped n guid value (t.last_stamp + 1)) (restamped_apart n guid value (t.last_stamp + 1)) t.interfaces s.guids;
 }
 
 -- ---- more
-
-stamped_on : (P : ℕ → Bool) (n stamp : ℕ) (pairs : List (List ℕ × ℕ)) → P n ≡ true → AllByRecursion (λ i. P i.handle ≡ true) (stamped n stamp pairs)
-stamped_on P n stamp [] h = tt
-stamped_on P n stamp (p ∷ ps) h = (h, stamped_on P n (stamp + 1) ps h)
 
 appended_one : {X : Type 0} (xs : List X) (y : X) (ys : List X) → (xs ++ y ∷ []) ++ ys ≡ xs ++ y ∷ ys
 appended_one [] y ys = refl
@@ -126,37 +101,19 @@ stamped_apart n stamp (p ∷ ps) is s a h =
 pub with_interfaces_proper : (n : ℕ) (pairs : List (List ℕ × ℕ)) (t : HandleTable) → IsProperTable t → is_live t n ≡ true → AreAbsent n pairs t.interfaces → has_guid_twice pairs ≡ false
     → IsProperTable (with_interfaces n pairs t)
 with_interfaces_proper n pairs t s live absent once = record {
-  table = record {
-    ascending = s.table.ascending;
-    given = s.table.given;
-    limit = s.table.limit;
-    on_live = all_append (λ i. list_any (λ m. nat_eq m i.handle) (numbers t) ≡ true) t.interfaces (stamped n t.last_stamp pairs) s.table.on_live
-        (stamped_on (λ h. list_any (λ m. nat_eq m h) (numbers t)) n t.last_stamp pairs (live_number t n live));
-  };
+  table = more_interfaces n pairs t s.table live;
   limit = s.limit;
+  places = s.places;
   guids = stamped_apart n t.last_stamp pairs t.interfaces s.guids absent once;
 }
 
-with_handle_on_live : (n : ℕ) (ns : List ℕ) (is : List Interface) → AreOn ns is → AreOn (ns ++ n ∷ []) is
-with_handle_on_live n ns is a =
-    all_map (λ i. list_any (λ m. nat_eq m i.handle) ns ≡ true) (λ i. list_any (λ m. nat_eq m i.handle) (ns ++ n ∷ []) ≡ true) (λ i h. any_push (λ m. nat_eq m i.handle) ns n h) is a
-
 pub with_handle_proper : (maker : Option Maker) (t : HandleTable) → IsProperTable t → length t.handles < max_handles → IsProperTable (with_handle maker t)
-with_handle_proper maker t s room =
-    let e : numbers (with_handle maker t) ≡ numbers t ++ (t.last_number + 1) ∷ [] = map_append (λ (h : LiveHandle). h.number) t.handles (record { number = t.last_number + 1; maker = maker } ∷ []) in
-    record {
-      table = record {
-        ascending = rw e (ascending_push (λ a b. a < b) (numbers t) (t.last_number + 1) s.table.ascending
-            (all_map (λ m. (0 < m) × (m ≤ t.last_number)) (λ m. m < t.last_number + 1) (λ m h. omega (arith, h.1)) (numbers t) s.table.given));
-        given = rw e (all_push (λ m. (0 < m) × (m ≤ t.last_number + 1)) (numbers t) (t.last_number + 1)
-            (all_map (λ m. (0 < m) × (m ≤ t.last_number)) (λ m. (0 < m) × (m ≤ t.last_number + 1)) (λ m h. (h.0, omega (arith, h.1))) (numbers t) s.table.given)
-            (omega arith, omega arith));
-        limit = rw length-append (omega (arith, room));
-        on_live = rw e (with_handle_on_live (t.last_number + 1) (numbers t) t.interfaces s.table.on_live);
-      };
-      limit = rw length-append (omega (arith, room));
-      guids = s.guids;
-    }
+with_handle_proper maker t s room = record {
+  table = one_more maker t s.table (omega (arith, room, s.table.places.0));
+  limit = rw length-append (omega (arith, room));
+  places = s.places;
+  guids = s.guids;
+}
 
 -- handles stay live beside a new one
 pub live_beside : (maker : Option Maker) (t : HandleTable) (n : ℕ) → is_live t n ≡ true → is_live (with_handle maker t) n ≡ true

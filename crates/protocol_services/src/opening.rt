@@ -1,5 +1,5 @@
 //! Opening and closing interfaces.
-ghost use Rattle.std.specs.Prelude.{◌≡◌, ◌==◌, [], ◌∷◌, true, false, cond, is_some, None, Some, IfOk, map};
+ghost use Rattle.std.specs.Prelude.{◌≡◌, ◌==◌, true, false, cond, is_some, None, Some, map};
 ghost use Rattle.guid_handles.specs.HandleTables.{carries, value_at};
 ghost use Rattle.protocol_services.specs.Lists.{IsRaised};
 ghost use Rattle.open_agents.specs.OpenRule.{has_equal};

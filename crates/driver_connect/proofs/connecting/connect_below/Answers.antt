@@ -4,7 +4,7 @@ use Rattle.driver_connect.specs.Connecting.{connected, first_progress, levels_be
 use Rattle.driver_connect.specs.Starting.{Progress, site_of}
 use Rattle.driver_connect.specs.Stopping.{without_handles}
 use Rattle.driver_connect.proofs.GoingOn.{made_back, opened_back, those_older}
-use Rattle.driver_connect.proofs.Passes.{numbers_rise, stamps_rise}
+use Rattle.driver_connect.proofs.FewHandles.{numbers_rise, stamps_rise}
 use Rattle.driver_connect.proofs.connecting.connect_below.Goals as goal
 
 pub take_back-requires-clause-older : goal.take_back-requires-clause-older
@@ -27,13 +27,19 @@ returns-in-Ok-clause-ok g c =
 
 pub returns-in-Ok-clause-numbers : goal.returns-in-Ok-clause-numbers
 returns-in-Ok-clause-numbers g c =
-    let a = rw c.take-connecting.ensures at c.in-Ok.ensures.grows in
-    numbers_rise c.args.handles.now c.put_in_place-events.new.handles (rw c.put_in_place-events.ensures.handles a) c.put_in_place-events.ensures.limit
+    let there = site_of g.D.Driver.meaning c.args.drivers.now c.args.notify.now c.args.handle in
+    let m = rw c.take-connecting.ensures at c.connect_all.ensures.goes_on in
+    rw c.put_in_place-events.ensures.handles
+    (numbers_rise c.args.leaving.now c.args.handles.now c.args.opens.now c.requires.leaving c.connect_all.new.connecting m (levels_below true) there []
+    (rw c.take-connecting.ensures at c.in-Ok.ensures.progress) (rw c.take-connecting.ensures at c.in-Ok.ensures.grows))
 
 pub returns-in-Ok-clause-stamps : goal.returns-in-Ok-clause-stamps
 returns-in-Ok-clause-stamps g c =
-    let a = rw c.take-connecting.ensures at c.in-Ok.ensures.grows in
-    stamps_rise c.args.handles.now c.put_in_place-events.new.handles (rw c.put_in_place-events.ensures.handles a) c.put_in_place-events.ensures.limit
+    let there = site_of g.D.Driver.meaning c.args.drivers.now c.args.notify.now c.args.handle in
+    let m = rw c.take-connecting.ensures at c.connect_all.ensures.goes_on in
+    rw c.put_in_place-events.ensures.handles
+    (stamps_rise c.args.leaving.now c.args.handles.now c.args.opens.now c.requires.leaving c.connect_all.new.connecting m (levels_below true) there []
+    (rw c.take-connecting.ensures at c.in-Ok.ensures.progress) (rw c.take-connecting.ensures at c.in-Ok.ensures.grows))
 
 pub returns-in-Err-clause-err : goal.returns-in-Err-clause-err
 returns-in-Err-clause-err g c =

@@ -1,22 +1,28 @@
-use Rattle.std.proofs.Common.{◌≡◌, ℕ, false, ap, sym, ◌∙◌, rules}
-use Rattle.driver_connect.specs.Beside.{reached}
+use Rattle.std.proofs.Common.{◌≡◌, ℕ, false, [], ap, sym, ◌∙◌, arith, rules}
+use Rattle.driver_connect.specs.Beside.{Draft, reached}
 use Rattle.driver_connect.specs.Connecting.{connected, first_progress, levels_below}
 use Rattle.driver_connect.specs.Starting.{Progress, is_any_carried_out, site_of, starts_on}
 use Rattle.driver_connect.proofs.Beside.{first_reached, may_leave_none, none_left}
 use Rattle.driver_connect.proofs.GoingOn.{made_back, opened_back, those_older}
 use Rattle.driver_connect.proofs.Idle.{idle_connect}
-use Rattle.driver_connect.proofs.Passes.{numbers_rise, stamps_rise}
+use Rattle.driver_connect.proofs.FewHandles.{numbers_rise, stamps_rise}
 use Rattle.driver_connect.proofs.connecting.connect_in_place.Goals as goal
 
 pub returns-in-Ok-true-clause-numbers : goal.returns-in-Ok-true-clause-numbers
 returns-in-Ok-true-clause-numbers g c =
-    let a = rw c.take-connecting.ensures at c.in-Ok-true.ensures.grows in
-    numbers_rise c.args.handles.now c.put_in_place.new.handles (rw c.put_in_place.ensures.handles a) c.put_in_place.ensures.limit
+    let there = site_of g.D.Driver.meaning c.args.drivers.now c.args.notify.now c.args.handle in
+    let m = rw c.take-connecting.ensures at c.connect_levels.ensures.goes_on in
+    let whole = c.in-Ok-true.ensures.progress ∙ ap (λ (d : Draft). connected c.if-recursive.levels there c.args.named.now (reached d)) c.take-connecting.ensures in
+    rw c.put_in_place.ensures.handles
+    (numbers_rise [] c.args.handles.now c.args.opens.now (may_leave_none c.args.handles.now) c.connect_levels.new.connecting m c.if-recursive.levels there c.args.named.now whole (rw c.take-connecting.ensures at c.in-Ok-true.ensures.grows))
 
 pub returns-in-Ok-true-clause-stamps : goal.returns-in-Ok-true-clause-stamps
 returns-in-Ok-true-clause-stamps g c =
-    let a = rw c.take-connecting.ensures at c.in-Ok-true.ensures.grows in
-    stamps_rise c.args.handles.now c.put_in_place.new.handles (rw c.put_in_place.ensures.handles a) c.put_in_place.ensures.limit
+    let there = site_of g.D.Driver.meaning c.args.drivers.now c.args.notify.now c.args.handle in
+    let m = rw c.take-connecting.ensures at c.connect_levels.ensures.goes_on in
+    let whole = c.in-Ok-true.ensures.progress ∙ ap (λ (d : Draft). connected c.if-recursive.levels there c.args.named.now (reached d)) c.take-connecting.ensures in
+    rw c.put_in_place.ensures.handles
+    (stamps_rise [] c.args.handles.now c.args.opens.now (may_leave_none c.args.handles.now) c.connect_levels.new.connecting m c.if-recursive.levels there c.args.named.now whole (rw c.take-connecting.ensures at c.in-Ok-true.ensures.grows))
 
 pub take_back-requires-clause-older : goal.take_back-requires-clause-older
 take_back-requires-clause-older g c =
@@ -60,3 +66,9 @@ returns-in-Err-clause-connects g c =
       c.take_back.ensures.handles ∙ rw (c.last_number-number.ensures, c.last_stamp-stamp.ensures.stamp) (made_back c.args.handles.now c.connect_levels.new.connecting.handles c.all-numbers.ensures.proper m.handles),
       c.take_back.ensures.opens ∙ rw c.len-items.ensures.count (opened_back c.args.opens.now c.connect_levels.new.connecting.opens m.opens),
     )
+
+pub returns-in-Ok-false-clause-numbers : goal.returns-in-Ok-false-clause-numbers
+returns-in-Ok-false-clause-numbers g c = let same = (returns-in-Ok-false-clause-connects g c).2 in rw same (omega arith)
+
+pub returns-in-Ok-false-clause-stamps : goal.returns-in-Ok-false-clause-stamps
+returns-in-Ok-false-clause-stamps g c = let same = (returns-in-Ok-false-clause-connects g c).2 in rw same (omega arith)

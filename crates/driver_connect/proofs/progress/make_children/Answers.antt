@@ -11,7 +11,7 @@ loop-child-init g c = record {
   room = c.requires.room;
   children = c.requires.children;
   made = made_none c.args.handles.now;
-  limit = c.requires.limit;
+  places = c.requires.places;
 }
 
 pub returns-in_err-make_child-clause-made : goal.returns-in_err-make_child-clause-made
@@ -24,5 +24,5 @@ loop-child-preserved g c = record {
   room = search rules;
   children = grind (arith, common_steps);
   made = made_further _ _ _ c.loop-child.invariant.made c.make_child.ensures.made;
-  limit = grind (arith, common_steps);
+  places = grind (arith, common_steps);
 }

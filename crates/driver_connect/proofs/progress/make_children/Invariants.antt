@@ -1,6 +1,5 @@
 use Rattle.std.proofs.Common.{◌≡◌, ◌+◌, ◌≤◌, true, map, drop, length}
 use Rattle.std.specs.List.{list_all}
-use Rattle.guid_handles.specs.HandleChanges.{max_in_table}
 use Rattle.driver_connect.specs.GoingOn.{HasMade}
 use Rattle.driver_connect.specs.Room.{HasRoom, Grows}
 use Rattle.driver_connect.specs.Starting.{is_child, with_children}
@@ -14,5 +13,5 @@ invariant-loop-child g l = record {
   room : HasRoom l.handles;
   children : list_all is_child (map (λ c. c.items) (drop l.child-index l.children)) ≡ true;
   made : HasMade l.fn.handles l.handles;
-  limit : length l.handles.handles + length (drop l.child-index l.children) ≤ max_in_table;
+  places : length l.handles.handles + length (drop l.child-index l.children) ≤ l.handles.places;
 }

@@ -8,8 +8,8 @@ use Rattle.driver_connect.proofs.Passes.{planned_unheld}
 use Rattle.driver_connect.proofs.Whole.{carried_whole}
 use Rattle.driver_connect.proofs.starting.Connecting.carry_out.Goals as goal
 
-pub returns-then-all-len-gt-MAX_IN_TABLE-clause-goes_on : goal.returns-then-all-len-gt-MAX_IN_TABLE-clause-goes_on
-returns-then-all-len-gt-MAX_IN_TABLE-clause-goes_on g c = rw (← c.self.view_is) (goes_nowhere _)
+pub returns-then-all-len-clause-goes_on : goal.returns-then-all-len-clause-goes_on
+returns-then-all-len-clause-goes_on g c = rw (← c.self.view_is) (goes_nowhere _)
 
 pub open_for_driver-requires-clause-free : goal.open_for_driver-requires-clause-free
 open_for_driver-requires-clause-free g c =
