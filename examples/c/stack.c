@@ -242,7 +242,7 @@ static const struct measured all[] = {
     {"RafkudinUninstallProtocolInterface", uninstall, 5000},
     {"RafkudinUninstallMultipleProtocolInterfaces", uninstall_many, 7000},
     {"RafkudinTraceLine", trace_line, 5000},
-    {"RafkudinFree", give_back, 12100},
+    {"RafkudinFree", give_back, 12200},
 };
 
 /* The bytes of the stack that calls take. */
