@@ -1,0 +1,96 @@
+"""What the tests of efihost share. A file of tests calls `finish` with its checks.
+
+Each is called with [--program PROGRAM] EFIHOST. PROGRAM is the proved program, which replays the traces. The last line
+is 'N passed, M failed', and the status is 1 if one failed. What can't be tried on this machine is skipped, with a line.
+"""
+import argparse
+import json
+import os
+import shutil
+import struct
+import subprocess
+import sys
+import tempfile
+
+HERE = os.path.dirname(os.path.realpath(__file__))
+counts = {"passed": 0, "failed": 0}
+words = argparse.ArgumentParser()
+words.add_argument("--program", default="")
+words.add_argument("efihost")
+words = words.parse_args()
+EFIHOST = os.path.realpath(words.efihost)
+PROGRAM = words.program
+has_program = bool(PROGRAM) and os.path.exists(PROGRAM)
+room = tempfile.mkdtemp(prefix="efihost-")
+apps = os.path.join(room, "apps")
+
+
+def expect(holds, said, ran=None):
+    counts["passed" if holds else "failed"] += 1
+    if not holds:
+        print(f"not so: {said}")
+        if ran is not None:
+            print(f"  status {ran.returncode}\n  {ran.stdout[-600:]!r}\n  {ran.stderr[-1500:]}")
+
+
+def skip(what):
+    print(f"skipped: {what}")
+
+
+def run(*arguments, keys=""):
+    how = {"input": keys, "capture_output": True, "text": True, "errors": "replace", "timeout": 100}
+    ran = subprocess.run([EFIHOST, *arguments], **how)
+    ran.stdout = ran.stdout.replace("\r", "")
+    return ran
+
+
+def app(name):
+    return os.path.join(apps, f"{name}.efi")
+
+
+def at(name):
+    return os.path.join(room, name)
+
+
+def read(name):
+    with open(name, encoding="utf-8", errors="replace") as file:
+        return file.read()
+
+
+def report_of(*arguments):
+    ran = run("--json", at("report.json"), *arguments)
+    with open(at("report.json"), encoding="utf-8") as file:
+        return ran, json.load(file)
+
+
+def begun(*arguments):
+    """A run that goes on, whose console is read line by line."""
+    how = {"stdin": subprocess.PIPE, "stdout": subprocess.PIPE, "stderr": subprocess.PIPE, "text": True}
+    return subprocess.Popen([EFIHOST, "--json", at("report.json"), *arguments], **how)
+
+
+def patched(name, form, *places):
+    """An image with other numbers at places behind its header's start."""
+    with open(app("right"), "rb") as file:
+        data = bytearray(file.read())
+    start = struct.unpack_from("<I", data, 60)[0]
+    for place, number in places:
+        struct.pack_into(form, data, start + place, number)
+    with open(at(name), "wb") as file:
+        file.write(data)
+    return at(name)
+
+
+def finish(checks):
+    """Builds the applications, runs the checks, and ends with the counts."""
+    try:
+        built = subprocess.run([os.path.join(HERE, "build-apps"), apps])
+        if built.returncode == 77:
+            skip("all that needs applications: there is no clang or no lld-link")
+        else:
+            expect(built.returncode == 0, "the applications are built")
+            checks()
+    finally:
+        shutil.rmtree(room, ignore_errors=True)
+    print(f"{counts['passed']} passed, {counts['failed']} failed")
+    sys.exit(counts["failed"] != 0)
