@@ -1,4 +1,5 @@
 //! Calls on the core of a machine.
+mod best_fit;
 mod boxed_drivers;
 mod call_lists;
 mod last_numbers;

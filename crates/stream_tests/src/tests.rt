@@ -5,6 +5,7 @@ mod last_calls;
 mod left_states;
 mod refused_inputs;
 mod reserved_frees;
+mod served_calls;
 
 use std::io::{Error, ErrorKind, Read, Result, Write};
 
