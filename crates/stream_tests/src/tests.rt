@@ -3,6 +3,7 @@ mod block_writes;
 mod heaps;
 mod last_calls;
 mod left_states;
+mod refused_blocks;
 mod refused_inputs;
 mod reserved_frees;
 mod served_calls;

@@ -7,6 +7,7 @@ ROWS = [
     ("words in other places", 12, 1, " answer\t 0x7F6 \r\n", "accepted"),
     ("another answer", 12, 1, "answer 150\n", "refused"),
     ("a bound less", 8, 4, "bounds 2\n0 160 5 150\n256 768 5 1014\n", "refused"),
+    ("the first bound less", 8, 4, "bounds 2\n256 768 5 1014\n1040 1008 5 2038\n", "refused"),
     ("a count too low", 10, 1, "256 768 4 1014\n", "refused"),
     ("a top too low", 9, 1, "0 160 5 149\n", "refused"),
     ("conventional runtime", 3, 1, "7 0 160 0x800000000000000f\n", "refused"),
