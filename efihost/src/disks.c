@@ -6,6 +6,7 @@
 #include <limits.h>
 #include <stdlib.h>
 #include <string.h>
+#include <sys/mman.h>
 #include <sys/stat.h>
 #include <unistd.h>
 
@@ -16,6 +17,9 @@ struct disk {
     EFI_BLOCK_IO_MEDIA media;
     uint8_t path[32];
     int file;
+    bool read_only;
+    uint64_t blocks;
+    uint8_t *copy; /* with --snapshot: the file's bytes, which become the process's own if written */
 };
 
 static struct {
@@ -23,6 +27,7 @@ static struct {
     uint64_t handle;
 } folders[MAX_DISKS];
 static size_t folder_count;
+static char *whole_application; /* its whole path on the host, or NULL */
 
 static EFI_STATUS EFIAPI reset_disk(EFI_BLOCK_IO_PROTOCOL *this, BOOLEAN extended)
 {
@@ -38,7 +43,7 @@ static EFI_STATUS judge(const struct disk *disk, uint32_t media, uint64_t block,
         return EFI_MEDIA_CHANGED;
     if (size % SECTOR != 0)
         return EFI_BAD_BUFFER_SIZE;
-    if (block > disk->media.LastBlock || size / SECTOR > disk->media.LastBlock + 1 - block)
+    if (block >= disk->blocks || size / SECTOR > disk->blocks - block)
         return EFI_INVALID_PARAMETER;
     return EFI_SUCCESS;
 }
@@ -56,6 +61,10 @@ static EFI_STATUS EFIAPI read_blocks(EFI_BLOCK_IO_PROTOCOL *this, uint32_t media
     if (bytes == NULL)
         ANSWER(EFI_INVALID_PARAMETER);
     touch(bytes, size, true);
+    if (disk->copy != NULL) {
+        memcpy(to, disk->copy + block * SECTOR, size);
+        ANSWER(EFI_SUCCESS);
+    }
     for (UINTN done = 0; done < size;) {
         ssize_t count = pread(disk->file, to + done, size - done, (off_t)(block * SECTOR + done));
 
@@ -77,10 +86,12 @@ static EFI_STATUS EFIAPI write_blocks(EFI_BLOCK_IO_PROTOCOL *this, uint32_t medi
         ANSWER(status);
     if (bytes == NULL)
         ANSWER(EFI_INVALID_PARAMETER);
-    if (disk->media.ReadOnly)
+    if (disk->read_only)
         ANSWER(EFI_WRITE_PROTECTED);
     touch(bytes, size, false);
-    if (pwrite(disk->file, bytes, size, (off_t)(block * SECTOR)) != (ssize_t)size)
+    if (disk->copy != NULL)
+        memcpy(disk->copy + block * SECTOR, bytes, size);
+    else if (pwrite(disk->file, bytes, size, (off_t)(block * SECTOR)) != (ssize_t)size)
         ANSWER(EFI_DEVICE_ERROR);
     ANSWER(EFI_SUCCESS);
 }
@@ -92,13 +103,20 @@ static EFI_STATUS EFIAPI flush_blocks(EFI_BLOCK_IO_PROTOCOL *this)
     ANSWER(fsync(((struct disk *)this)->file) == 0 ? EFI_SUCCESS : EFI_DEVICE_ERROR);
 }
 
-/* Opens an image, or a block device of the host's, which has its size at its end. */
-static void open_disk(struct disk *disk, const char *name)
+/* Whether the process only reads a disk. */
+bool disk_is_read_only(size_t number)
 {
+    return host.options.snapshot || host.options.disk_read_only[number];
+}
+
+/* Opens an image, or a block device of the host's, which has its size at its end. */
+static void open_disk(struct disk *disk, const char *name, unsigned number)
+{
+    bool copies = host.options.snapshot && !host.options.disk_read_only[number];
     off_t size;
 
-    disk->file = open(name, O_RDWR | O_CLOEXEC);
-    disk->media.ReadOnly = disk->file < 0;
+    disk->file = disk_is_read_only(number) ? -1 : open(name, O_RDWR | O_CLOEXEC);
+    disk->read_only = disk->file < 0 && !copies;
     if (disk->file < 0)
         disk->file = open(name, O_RDONLY | O_CLOEXEC);
     if (disk->file < 0)
@@ -106,7 +124,13 @@ static void open_disk(struct disk *disk, const char *name)
     size = lseek(disk->file, 0, SEEK_END);
     if (size < (off_t)SECTOR)
         refuse("disk %s: it has less than a block of %u bytes", name, SECTOR);
-    disk->media.LastBlock = (uint64_t)size / SECTOR - 1;
+    disk->blocks = (uint64_t)size / SECTOR;
+    if (!copies)
+        return;
+    disk->copy = mmap(NULL, (size_t)size, PROT_READ | PROT_WRITE, MAP_PRIVATE | MAP_NORESERVE,
+                      disk->file, 0);
+    if (disk->copy == MAP_FAILED)
+        refuse("disk %s: no snapshot: %s", name, strerror(errno));
 }
 
 static void make_disk(const char *name, unsigned number)
@@ -116,9 +140,11 @@ static void make_disk(const char *name, unsigned number)
     struct disk *disk = must(calloc(1, sizeof *disk));
     uint64_t handle = 0;
 
-    open_disk(disk, name);
+    open_disk(disk, name, number);
     disk->media.MediaId = 1;
     disk->media.MediaPresent = true;
+    disk->media.ReadOnly = disk->read_only;
+    disk->media.LastBlock = disk->blocks - 1;
     disk->media.BlockSize = SECTOR;
     disk->protocol = (EFI_BLOCK_IO_PROTOCOL){0x10000,     &disk->media, reset_disk,
                                              read_blocks, write_blocks, flush_blocks};
@@ -128,8 +154,10 @@ static void make_disk(const char *name, unsigned number)
     install_one(&handle, &device_path_guid, 0, NUMBER(disk->path));
 }
 
+/* The paths of the host are found here, while the process may look for them. */
 void make_disks(void)
 {
+    whole_application = realpath(host.options.application, NULL);
     for (size_t i = 0; i < host.options.disk_count; i++) {
         const char *name = host.options.disks[i];
         struct stat about;
@@ -141,7 +169,7 @@ void make_disks(void)
             continue;
         }
         folders[folder_count].path = must(realpath(name, NULL));
-        folders[folder_count++].handle = make_folder(name, (unsigned)i);
+        folders[folder_count++].handle = make_folder(name, (unsigned)i, disk_is_read_only(i));
     }
 }
 
@@ -161,8 +189,7 @@ static EFI_HANDLE first_file_system(void)
 const char *application_path(const char *file, EFI_HANDLE *device)
 {
     static char path[PATH_MAX];
-    char *whole = realpath(file, NULL);
-    const char *rest = NULL;
+    const char *whole = whole_application, *rest = NULL;
 
     *device = NULL;
     for (size_t i = 0; whole != NULL && i < folder_count; i++) {
@@ -181,6 +208,5 @@ const char *application_path(const char *file, EFI_HANDLE *device)
     for (char *at = path; *at != 0; at++)
         if (*at == '/')
             *at = '\\';
-    free(whole);
     return path;
 }

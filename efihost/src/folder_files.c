@@ -13,7 +13,8 @@
 
 struct open_file {
     EFI_FILE_PROTOCOL protocol;
-    int root, file;
+    const struct folder *folder;
+    int file;
     DIR *list; /* of a folder */
     bool writes;
     uint64_t position;
@@ -28,31 +29,59 @@ static const EFI_GUID label_guid = {
     0xdb47d7d3, 0xfe81, 0x11d3, {0x9a, 0x35, 0x00, 0x90, 0x27, 0x3f, 0xc1, 0x4d}};
 static const CHAR16 label[] = {'H', 'O', 'S', 'T', 0};
 
+/* The path of the folder that holds a file. */
+static void path_above(const struct open_file *it, char *above)
+{
+    char *slash;
+
+    strcpy(above, it->path);
+    slash = strrchr(above, '/');
+    *(slash == NULL ? above : slash) = 0;
+}
+
+/* Makes a folder, if there is none. */
+static EFI_STATUS make_directory(const struct folder *folder, const char *path)
+{
+    const char *name;
+    int above = folder_above(folder, path, &name);
+    EFI_STATUS status = EFI_SUCCESS;
+
+    if (above < 0 || (*name != 0 && mkdirat(above, name, 0777) != 0 && errno != EEXIST))
+        status = folder_status();
+    if (above >= 0)
+        close(above);
+    return status;
+}
+
 static EFI_STATUS EFIAPI open_below(EFI_FILE_PROTOCOL *this, EFI_FILE_PROTOCOL **made,
                                     const CHAR16 *name, uint64_t mode, uint64_t attributes)
 {
     SERVICE("File.Open", NUMBER(this), NUMBER(name), mode, attributes);
     struct open_file *from = (struct open_file *)this;
-    int flags = (mode & EFI_FILE_MODE_WRITE) != 0 ? O_RDWR : O_RDONLY;
-    char folder[FOLDER_PATH], path[FOLDER_PATH], *slash;
+    const uint64_t changes = EFI_FILE_MODE_READ | EFI_FILE_MODE_WRITE;
+    int flags = mode == EFI_FILE_MODE_READ ? O_RDONLY : O_RDWR;
+    char above[FOLDER_PATH], path[FOLDER_PATH];
     EFI_STATUS status;
 
-    if (made == NULL || name == NULL || (mode & EFI_FILE_MODE_READ) == 0)
+    if (made == NULL || name == NULL ||
+        (flags == O_RDWR && (mode & ~EFI_FILE_MODE_CREATE) != changes))
         ANSWER(EFI_INVALID_PARAMETER);
-    strcpy(folder, from->path);
-    slash = strrchr(folder, '/');
-    if (from->list == NULL)
-        *(slash == NULL ? folder : slash) = 0;
-    status = folder_resolve(from->root, folder, name, path);
-    if (status != EFI_SUCCESS)
-        ANSWER(status);
-    if ((mode & EFI_FILE_MODE_CREATE) != 0 && (attributes & EFI_FILE_DIRECTORY) != 0) {
-        if (mkdirat(from->root, path, 0777) != 0 && errno != EEXIST)
-            ANSWER(folder_status());
-    } else if ((mode & EFI_FILE_MODE_CREATE) != 0) {
-        flags |= O_CREAT;
+    if (from->list != NULL)
+        strcpy(above, from->path);
+    else
+        path_above(from, above);
+    status = folder_resolve(from->folder, above, name, path);
+    if (status == EFI_SUCCESS && flags == O_RDWR && from->folder->read_only)
+        status = EFI_WRITE_PROTECTED;
+    if (status == EFI_SUCCESS && (mode & EFI_FILE_MODE_CREATE) != 0) {
+        if ((attributes & EFI_FILE_DIRECTORY) != 0)
+            status = make_directory(from->folder, path);
+        else
+            flags |= O_CREAT;
     }
-    ANSWER(folder_open(from->root, path, flags, made));
+    if (status == EFI_SUCCESS)
+        status = folder_open(from->folder, path, flags, made);
+    ANSWER(status);
 }
 
 static void close_file(struct open_file *it)
@@ -72,51 +101,69 @@ static EFI_STATUS EFIAPI close_this(EFI_FILE_PROTOCOL *this)
     ANSWER(EFI_SUCCESS);
 }
 
+/* Whether the path of a file still has that file, and no other that took its name. */
+static bool is_in_place(const struct open_file *it, int above, const char *name)
+{
+    struct stat now, about;
+
+    return fstatat(above, name, &now, AT_SYMLINK_NOFOLLOW) == 0 && fstat(it->file, &about) == 0 &&
+           now.st_dev == about.st_dev && now.st_ino == about.st_ino;
+}
+
+static bool delete(const struct open_file *it)
+{
+    const char *name;
+    int above = folder_above(it->folder, it->path, &name);
+    bool gone = above >= 0 && is_in_place(it, above, name) &&
+                unlinkat(above, name, it->list == NULL ? 0 : AT_REMOVEDIR) == 0;
+
+    if (above >= 0)
+        close(above);
+    return gone;
+}
+
 static EFI_STATUS EFIAPI delete_this(EFI_FILE_PROTOCOL *this)
 {
     SERVICE("File.Delete", NUMBER(this));
     struct open_file *it = (struct open_file *)this;
-    bool gone = *it->path != 0 && (it->list != NULL || it->writes) &&
-                unlinkat(it->root, it->path, it->list == NULL ? 0 : AT_REMOVEDIR) == 0;
+    bool gone = *it->path != 0 && it->writes && delete(it);
 
     close_file(it);
     ANSWER(gone ? EFI_SUCCESS : EFI_WARN_DELETE_FAILURE);
 }
 
 /* Writes what a file's information is, where it fits; *size are the bytes needed. */
-static EFI_STATUS write_info(int root, const char *path, const char *name, UINTN *size, void *to)
+static EFI_STATUS write_info(const struct stat *about, const char *name, UINTN *size, void *to)
 {
-    struct stat about;
     EFI_FILE_INFO *info = to;
     CHAR16 wide[NAME_MAX + 1];
     UINTN needed, room = *size;
 
     widen(wide, name);
     needed = sizeof *info + 2 * (wide_length(wide) + 1);
-    if (fstatat(root, *path == 0 ? "." : path, &about, AT_SYMLINK_NOFOLLOW) != 0)
-        return folder_status();
     *size = needed;
     if (room < needed)
         return EFI_BUFFER_TOO_SMALL;
     memset(info, 0, sizeof *info);
     info->Size = needed;
-    info->FileSize = S_ISDIR(about.st_mode) ? 0 : (uint64_t)about.st_size;
-    info->PhysicalSize = (uint64_t)about.st_blocks * 512;
-    write_time(&info->CreateTime, about.st_mtime);
-    write_time(&info->LastAccessTime, about.st_atime);
-    write_time(&info->ModificationTime, about.st_mtime);
-    info->Attribute = S_ISDIR(about.st_mode) ? EFI_FILE_DIRECTORY : 0x20;
-    if ((about.st_mode & 0222) == 0)
+    info->FileSize = S_ISDIR(about->st_mode) ? 0 : (uint64_t)about->st_size;
+    info->PhysicalSize = (uint64_t)about->st_blocks * 512;
+    write_time(&info->CreateTime, about->st_mtime);
+    write_time(&info->LastAccessTime, about->st_atime);
+    write_time(&info->ModificationTime, about->st_mtime);
+    info->Attribute = S_ISDIR(about->st_mode) ? EFI_FILE_DIRECTORY : 0x20;
+    if ((about->st_mode & 0222) == 0)
         info->Attribute |= EFI_FILE_READ_ONLY;
     memcpy(info->FileName, wide, needed - sizeof *info);
     return EFI_SUCCESS;
 }
 
-/* The next entry of a folder; 0 bytes behind the last one. One that doesn't fit is read again. */
+/* The next entry of a folder; 0 bytes after the last one. One that doesn't fit is read again. Names
+ * that can't be opened are not shown. */
 static EFI_STATUS read_entry(struct open_file *it, UINTN *size, void *to)
 {
     const struct dirent *entry;
-    char path[2 * FOLDER_PATH];
+    struct stat about;
     EFI_STATUS status;
     long before;
 
@@ -128,9 +175,10 @@ static EFI_STATUS read_entry(struct open_file *it, UINTN *size, void *to)
             return EFI_SUCCESS;
         }
     } while (strcmp(entry->d_name, ".") == 0 || strcmp(entry->d_name, "..") == 0 ||
-             entry->d_type == DT_LNK);
-    snprintf(path, sizeof path, "%s%s%s", it->path, *it->path == 0 ? "" : "/", entry->d_name);
-    status = write_info(it->root, path, entry->d_name, size, to);
+             !folder_takes_name(entry->d_name) ||
+             fstatat(it->file, entry->d_name, &about, AT_SYMLINK_NOFOLLOW) != 0 ||
+             S_ISLNK(about.st_mode));
+    status = write_info(&about, entry->d_name, size, to);
     if (status == EFI_BUFFER_TOO_SMALL)
         seekdir(it->list, before);
     return status;
@@ -235,7 +283,7 @@ static EFI_STATUS system_info(struct open_file *it, UINTN *size, void *to)
     *size = needed;
     if (room < needed)
         return EFI_BUFFER_TOO_SMALL;
-    if (fstatvfs(it->root, &about) != 0)
+    if (fstatvfs(it->folder->root, &about) != 0)
         return EFI_DEVICE_ERROR;
     memset(info, 0, offset);
     info->Size = needed;
@@ -251,13 +299,15 @@ static EFI_STATUS EFIAPI get_info(EFI_FILE_PROTOCOL *this, const EFI_GUID *kind,
 {
     SERVICE("File.GetInfo", NUMBER(this), NUMBER(kind), size == NULL ? 0 : *size, NUMBER(to));
     struct open_file *it = (struct open_file *)this;
-    const char *name = strrchr(it->path, '/') == NULL ? it->path : strrchr(it->path, '/') + 1;
+    const char *name = last_part(it->path);
+    struct stat about;
     UINTN room;
 
     if (kind == NULL || size == NULL || (to == NULL && *size != 0))
         ANSWER(EFI_INVALID_PARAMETER);
     if (guid_equal(kind, &file_info_guid))
-        ANSWER(write_info(it->root, it->path, name, size, to));
+        ANSWER(fstat(it->file, &about) == 0 ? write_info(&about, name, size, to)
+                                            : folder_status());
     if (guid_equal(kind, &system_info_guid))
         ANSWER(system_info(it, size, to));
     if (!guid_equal(kind, &label_guid))
@@ -270,6 +320,52 @@ static EFI_STATUS EFIAPI get_info(EFI_FILE_PROTOCOL *this, const EFI_GUID *kind,
     ANSWER(EFI_SUCCESS);
 }
 
+/* Moves a file to a path that no file has. */
+static EFI_STATUS move_to(struct open_file *it, const char *path)
+{
+    const char *old_name, *new_name;
+    int from = folder_above(it->folder, it->path, &old_name);
+    int to = folder_above(it->folder, path, &new_name);
+    EFI_STATUS status = EFI_SUCCESS;
+
+    if (from < 0 || to < 0)
+        status = folder_status();
+    else if (!is_in_place(it, from, old_name) || folder_mode(it->folder, path) != 0)
+        status = EFI_ACCESS_DENIED;
+    else if (renameat(from, old_name, to, new_name) != 0)
+        status = folder_status();
+    if (from >= 0)
+        close(from);
+    if (to >= 0)
+        close(to);
+    if (status == EFI_SUCCESS)
+        strcpy(it->path, path);
+    return status;
+}
+
+/* Sets a file's size. */
+static EFI_STATUS resize(const struct open_file *it, uint64_t size)
+{
+    struct stat about;
+
+    if (it->list != NULL || (fstat(it->file, &about) == 0 && (uint64_t)about.st_size == size))
+        return EFI_SUCCESS;
+    if (!it->writes)
+        return EFI_ACCESS_DENIED;
+    if (size > INT64_MAX)
+        return EFI_VOLUME_FULL;
+    return ftruncate(it->file, (off_t)size) == 0 ? EFI_SUCCESS : folder_status();
+}
+
+/* Whether a text ends within its bytes. */
+static bool ends_within(const CHAR16 *text, UINTN size)
+{
+    for (UINTN i = 0; i < size / sizeof *text; i++)
+        if (text[i] == 0)
+            return true;
+    return false;
+}
+
 /* Sets a file's size and its name, and nothing else. */
 static EFI_STATUS EFIAPI set_info(EFI_FILE_PROTOCOL *this, const EFI_GUID *kind, UINTN size,
                                   const void *from)
@@ -277,28 +373,22 @@ static EFI_STATUS EFIAPI set_info(EFI_FILE_PROTOCOL *this, const EFI_GUID *kind,
     SERVICE("File.SetInfo", NUMBER(this), NUMBER(kind), size, NUMBER(from));
     struct open_file *it = (struct open_file *)this;
     const EFI_FILE_INFO *info = from;
-    char folder[FOLDER_PATH], path[FOLDER_PATH], *slash;
-    struct stat about;
+    char above[FOLDER_PATH], path[FOLDER_PATH];
+    EFI_STATUS status;
 
-    if (kind == NULL || from == NULL || !guid_equal(kind, &file_info_guid) ||
-        size < sizeof *info + 2)
+    if (kind == NULL || from == NULL || !guid_equal(kind, &file_info_guid))
         ANSWER(EFI_UNSUPPORTED);
-    if (it->list == NULL && fstat(it->file, &about) == 0 &&
-        (uint64_t)about.st_size != info->FileSize &&
-        (!it->writes || ftruncate(it->file, (off_t)info->FileSize) != 0))
-        ANSWER(EFI_ACCESS_DENIED);
-    strcpy(folder, it->path);
-    slash = strrchr(folder, '/');
-    *(slash == NULL ? folder : slash) = 0;
-    if (*it->path == 0 || folder_resolve(it->root, folder, info->FileName, path) != EFI_SUCCESS ||
-        strcmp(path, it->path) == 0)
-        ANSWER(EFI_SUCCESS);
-    if (fstatat(it->root, path, &about, AT_SYMLINK_NOFOLLOW) == 0)
-        ANSWER(EFI_ACCESS_DENIED);
-    if (renameat(it->root, it->path, it->root, path) != 0)
-        ANSWER(folder_status());
-    strcpy(it->path, path);
-    ANSWER(EFI_SUCCESS);
+    if (size < sizeof *info || !ends_within(info->FileName, size - sizeof *info))
+        ANSWER(EFI_BAD_BUFFER_SIZE);
+    if (it->folder->read_only)
+        ANSWER(EFI_WRITE_PROTECTED);
+    path_above(it, above);
+    status = *it->path == 0 ? EFI_SUCCESS : folder_resolve(it->folder, above, info->FileName, path);
+    if (status == EFI_SUCCESS)
+        status = resize(it, info->FileSize);
+    if (status != EFI_SUCCESS || *it->path == 0 || strcmp(path, it->path) == 0)
+        ANSWER(status);
+    ANSWER(it->writes && *path != 0 ? move_to(it, path) : EFI_ACCESS_DENIED);
 }
 
 static EFI_STATUS EFIAPI flush_this(EFI_FILE_PROTOCOL *this)
@@ -313,16 +403,18 @@ static const EFI_FILE_PROTOCOL functions = {
     0x10000,      open_below,   close_this, delete_this, read_this, write_this,
     get_position, set_position, get_info,   set_info,    flush_this};
 
-/* Opens what is at a path below the root; a pipe, which is no file, is not waited for. */
-EFI_STATUS folder_open(int root, const char *path, int flags, EFI_FILE_PROTOCOL **made)
+/* Opens a file or folder at a path below the root; pipes and devices are not even tried. */
+EFI_STATUS folder_open(const struct folder *folder, const char *path, int flags,
+                       EFI_FILE_PROTOCOL **made)
 {
-    const int careful = O_NOFOLLOW | O_NONBLOCK | O_CLOEXEC;
+    mode_t mode = folder_mode(folder, path);
     struct open_file *it;
     struct stat about;
-    int file = openat(root, *path == 0 ? "." : path, flags | careful, 0666);
+    int file;
 
-    if (file < 0 && errno == EISDIR)
-        file = openat(root, *path == 0 ? "." : path, O_RDONLY | careful);
+    if (mode != 0 && !S_ISDIR(mode) && !S_ISREG(mode))
+        return EFI_ACCESS_DENIED;
+    file = folder_descriptor(folder, path, (S_ISDIR(mode) ? O_RDONLY : flags) | O_NONBLOCK);
     if (file < 0 || fstat(file, &about) != 0)
         return folder_status();
     if (!S_ISDIR(about.st_mode) && !S_ISREG(about.st_mode)) {
@@ -331,7 +423,7 @@ EFI_STATUS folder_open(int root, const char *path, int flags, EFI_FILE_PROTOCOL 
     }
     it = must(calloc(1, sizeof *it));
     it->protocol = functions;
-    it->root = root;
+    it->folder = folder;
     it->file = file;
     it->writes = (flags & O_RDWR) != 0;
     if (S_ISDIR(about.st_mode))

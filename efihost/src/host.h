@@ -46,8 +46,9 @@ struct options {
     const char *machine, *trace, *input, *variables, *json, *calls, *picture, *screen, *serial,
         *serial_input, *firmware, *application;
     const char *disks[MAX_DISKS], *drivers[MAX_DRIVERS], *arguments[MAX_ARGUMENTS];
+    bool disk_read_only[MAX_DISKS];
     size_t disk_count, driver_count, argument_count;
-    bool check, guard, strict, quiet, plain, certify, rights;
+    bool check, guard, strict, quiet, plain, certify, rights, snapshot;
     unsigned seconds;
 };
 
@@ -324,11 +325,13 @@ struct image {
 struct image *image_at(uint64_t address);
 struct image *image_of(EFI_HANDLE handle);
 struct image *first_image(void);
+void keep_symbols(const char *file, const uint8_t *bytes, size_t length);
 void read_symbols(struct image *image, const char *file);
 const char *place_text(struct image *image, uint64_t address);
 const char *where(uint64_t address);
 const char *origin_text(const struct origin *origin);
 EFI_STATUS load_pe(const uint8_t *file, uint64_t length, struct image *image);
+void peek_debug_file(const uint8_t *file, uint64_t length, struct image *image);
 const char *image_fault(void);
 void apply_rights(struct image *image);
 EFI_STATUS load_image(EFI_HANDLE parent, const void *path, const uint8_t *data, uint64_t length,
@@ -431,7 +434,8 @@ void seal_table(EFI_TABLE_HEADER *header);
 
 /* ---- disks.c, folder.c, folder_files.c, graphics.c, picture.c, serial.c ---- */
 void make_disks(void);
-uint64_t make_folder(const char *path, unsigned number);
+bool disk_is_read_only(size_t number);
+uint64_t make_folder(const char *path, unsigned number, bool read_only);
 EFI_FILE_PROTOCOL *folder_root(int folder);
 void write_time(EFI_TIME *to, int64_t seconds);
 const char *application_path(const char *file, EFI_HANDLE *device);
@@ -445,6 +449,7 @@ void catch_faults(void);
 void heed_signals(void);
 const char *pass_over(void *context, bool only_name);
 void print_passed_over(FILE *file);
+void keep_named_files(void);
 void drop_rights(void);
 
 extern const EFI_GUID device_path_guid, loaded_image_guid, loaded_image_path_guid,

@@ -13,6 +13,10 @@ static const char usage[] =
     "  --machine FILE    the machine's memory map, a machine file of bootcore; else 256 MB\n"
     "  --disk FILE       an image as a block device\n"
     "  --disk FOLDER     a folder as a file system\n"
+    "  --disk-read-only FILE|FOLDER\n"
+    "                    the same, which nothing is written to\n"
+    "  --snapshot        what is written to a --disk FILE goes to memory and is lost at the end; a\n"
+    "                    folder is read-only\n"
     "  --firmware FILE   the firmware volumes of a firmware: its drivers and applications may be\n"
     "                    named instead of files\n"
     "  --driver FILE     a driver's .efi, started before the application; drivers are then\n"
@@ -42,7 +46,8 @@ static const char usage[] =
     "  --strict          a privileged instruction ends the run\n"
     "  --time SECONDS    ends the run then; 0 is never; without the option it is 60, or never where\n"
     "                    keys come from a terminal\n"
-    "  --rights          the process keeps the rights that it has\n"
+    "  --rights          the process keeps the rights that it has; without it efihost starts no\n"
+    "                    image if the system has no Landlock or no seccomp\n"
     "  --help, --version\n"
     "\n"
     "Exit status: 0 the application ended with success; 1 with an error; 2 it was never run;\n"
@@ -85,7 +90,7 @@ static bool read_flag(const char *word, struct options *options)
         {"--check", &options->check},     {"--guard", &options->guard},
         {"--strict", &options->strict},   {"--quiet", &options->quiet},
         {"--plain", &options->plain},     {"--certify", &options->certify},
-        {"--rights", &options->rights},
+        {"--rights", &options->rights},   {"--snapshot", &options->snapshot},
     };
 
     for (size_t i = 0; i < LENGTH(flags); i++)
@@ -129,11 +134,12 @@ static bool read_value(const char *word, const char *value, struct options *opti
             *values[i].value = value;
             return true;
         }
-    if (strcmp(word, "--disk") == 0)
+    if (strcmp(word, "--disk") == 0 || strcmp(word, "--disk-read-only") == 0) {
         add_to(options->disks, &options->disk_count, MAX_DISKS, value);
-    else if (strcmp(word, "--driver") == 0)
+        options->disk_read_only[options->disk_count - 1] = word[strlen("--disk")] != 0;
+    } else if (strcmp(word, "--driver") == 0) {
         add_to(options->drivers, &options->driver_count, MAX_DRIVERS, value);
-    else if (strcmp(word, "--time") == 0) {
+    } else if (strcmp(word, "--time") == 0) {
         seconds = strtoul(value, &end, 10);
         if (end == value || *end != 0 || *value == '-' || seconds > MAX_SECONDS)
             refuse("--time: %s is no number of seconds", value);
