@@ -32,8 +32,10 @@ static struct loaded_file read_image(const char *name)
     int why;
 
     file.bytes = read_file(name, &file.length);
-    if (file.bytes != NULL)
+    if (file.bytes != NULL) {
+        keep_symbols(name, file.bytes, file.length);
         return file;
+    }
     why = errno;
     file.bytes = firmware_image(name, &file.length);
     if (file.bytes == NULL)
@@ -192,12 +194,14 @@ int main(int count, char **words)
     host.checks = host.options.check || host.options.guard;
     host.tpl = TPL_APPLICATION;
     setvbuf(stdout, output, _IOFBF, sizeof output);
+    catch_faults();
+    keep_named_files();
+    open_report(host.options.json);
     open_firmware(host.options.firmware);
     application = read_image(host.options.application);
     for (size_t i = 0; i < host.options.driver_count; i++)
         drivers[i] = read_image(host.options.drivers[i]);
     close_firmware();
-    open_report(host.options.json);
     if (host.options.calls != NULL)
         open_calls_log(host.options.calls);
     open_keys(host.options.input);
@@ -209,7 +213,6 @@ int main(int count, char **words)
     make_disks();
     make_graphics();
     make_serial(host.options.serial, host.options.serial_input);
-    catch_faults();
     drop_rights();
     run_on_stack();
     return ENDED_NEVER_RAN;

@@ -2,6 +2,7 @@
  * memory may be used for. */
 #include "host.h"
 
+#include <stdlib.h>
 #include <string.h>
 #include <sys/mman.h>
 
@@ -158,7 +159,6 @@ static bool copy_sections(const struct headers *from, struct image *image)
 {
     uint8_t *to = POINTER(image->base);
 
-    memset(POINTER(image->placed), 0, image->pages * PAGE);
     memcpy(to, from->file, from->header_size);
     for (unsigned i = 0; i < from->section_count; i++) {
         const uint8_t *header = from->sections + 40 * i;
@@ -337,6 +337,7 @@ EFI_STATUS load_pe(const uint8_t *file, uint64_t length, struct image *image)
     status = place(&headers, image);
     if (status != EFI_SUCCESS)
         return status;
+    memset(POINTER(image->placed), 0, image->pages * PAGE);
     if (!copy_sections(&headers, image) || !relocate(&headers, image)) {
         host_free_pages(image->placed, image->pages);
         return EFI_LOAD_ERROR;
@@ -345,4 +346,20 @@ EFI_STATUS load_pe(const uint8_t *file, uint64_t length, struct image *image)
     image->packages = find_packages(&headers, image);
     find_debug_file(&headers, image);
     return EFI_SUCCESS;
+}
+
+/* Reads what file the debug entry of an image names, without loading it. */
+void peek_debug_file(const uint8_t *file, uint64_t length, struct image *image)
+{
+    struct headers headers;
+    void *bytes;
+
+    if (!read_headers(file, length, &headers))
+        return;
+    bytes = must(calloc(1, headers.size));
+    image->size = headers.size;
+    image->base = NUMBER(bytes);
+    if (copy_sections(&headers, image))
+        find_debug_file(&headers, image);
+    free(bytes);
 }

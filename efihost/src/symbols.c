@@ -3,8 +3,21 @@
 #include "host.h"
 
 #include <elf.h>
+#include <fcntl.h>
 #include <stdlib.h>
 #include <string.h>
+#include <unistd.h>
+
+#define HEAD 4096
+#define MAP_BASE " Preferred load address is "
+
+/* A file that may have the names of an image. */
+static struct names {
+    const char *image;
+    uint8_t *bytes;
+    size_t length;
+} *kept;
+static size_t kept_count;
 
 static int by_offset(const void *one, const void *other)
 {
@@ -39,7 +52,7 @@ static void read_map(struct image *image, char *text)
         unsigned long address;
         char name[256];
 
-        if (sscanf(line, " Preferred load address is %lx", &address) == 1)
+        if (sscanf(line, MAP_BASE "%lx", &address) == 1)
             base = address;
         if (sscanf(line, " %x:%x %255s %lx", &section, &offset, name, &address) == 4)
             keep_symbol(image, address - base, name, strlen(name));
@@ -85,43 +98,75 @@ static void read_elf(struct image *image, const uint8_t *file, size_t length)
     }
 }
 
-/* Reads names from a file, if it is there: of ELF, or else a map. */
-static void read_names(struct image *image, const char *path)
+/* Whether a file begins as one of ELF does, or as a map. Of any other file, which an image may name
+ * too, nothing stays in the process. */
+static bool has_names(const char *path)
 {
-    size_t length;
-    uint8_t *file = read_file(path, &length);
+    char head[HEAD] = "";
+    int file = open(path, O_RDONLY | O_NONBLOCK | O_CLOEXEC);
+    bool has;
 
-    if (file == NULL)
-        return;
-    if (length > SELFMAG && memcmp(file, ELFMAG, SELFMAG) == 0)
-        read_elf(image, file, length);
-    else
-        read_map(image, (char *)file);
-    free(file);
+    if (file < 0)
+        return false;
+    has = read(file, head, sizeof head - 1) > SELFMAG &&
+          (memcmp(head, ELFMAG, SELFMAG) == 0 || strstr(head, MAP_BASE) != NULL);
+    explicit_bzero(head, sizeof head);
+    close(file);
+    return has;
 }
 
-/* Reads the names of the first file that has some, of those beside an image of the host's: first
- * the one that its debug entry names. `file` is the image's path, or NULL. */
-void read_symbols(struct image *image, const char *file)
+static void keep_names(const char *image, const char *path)
+{
+    struct names names = {image, NULL, 0};
+
+    if (has_names(path))
+        names.bytes = read_file(path, &names.length);
+    if (names.bytes == NULL)
+        return;
+    kept = must(realloc(kept, (kept_count + 1) * sizeof *kept));
+    kept[kept_count++] = names;
+}
+
+/* Keeps the files beside an image of the host's that may have its names: first the one that its
+ * debug entry names. Later the process has no right to read them. */
+void keep_symbols(const char *file, const uint8_t *bytes, size_t length)
 {
     static const char *const endings[] = {".map", ".efi.map", ".debug", ".so", ".elf"};
-    const char *debug = last_part(image->debug_file);
-    size_t folder, stem;
+    struct image *image = must(calloc(1, sizeof *image));
+    size_t folder = (size_t)(last_part(file) - file), stem = strlen(file);
+    const char *debug;
     char path[4096];
 
-    if (file == NULL)
-        return;
-    stem = strlen(file);
-    folder = (size_t)(last_part(file) - file);
+    peek_debug_file(bytes, length, image);
+    debug = last_part(image->debug_file);
     if (stem > 4 && strcmp(file + stem - 4, ".efi") == 0)
         stem -= 4;
     if (*debug != 0) {
         snprintf(path, sizeof path, "%.*s%s", (int)folder, file, debug);
-        read_names(image, path);
+        keep_names(file, path);
     }
-    for (size_t i = 0; i < LENGTH(endings) && image->symbol_count == 0; i++) {
+    for (size_t i = 0; i < LENGTH(endings); i++) {
         snprintf(path, sizeof path, "%.*s%s", (int)stem, file, endings[i]);
-        read_names(image, path);
+        keep_names(file, path);
+    }
+    free(image);
+}
+
+/* Reads the names of the first of the files kept for an image that has some. `file` is the image's
+ * path, or NULL. */
+void read_symbols(struct image *image, const char *file)
+{
+    for (size_t i = 0; i < kept_count; i++) {
+        struct names *it = &kept[i];
+
+        if (it->image != file || it->bytes == NULL)
+            continue;
+        if (image->symbol_count == 0 && memcmp(it->bytes, ELFMAG, SELFMAG) == 0)
+            read_elf(image, it->bytes, it->length);
+        else if (image->symbol_count == 0)
+            read_map(image, (char *)it->bytes);
+        free(it->bytes);
+        it->bytes = NULL;
     }
     if (image->symbol_count > 0)
         qsort(image->symbols, image->symbol_count, sizeof *image->symbols, by_offset);

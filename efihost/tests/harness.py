@@ -4,6 +4,7 @@ Each is called with [--program PROGRAM] EFIHOST. PROGRAM is the proved program, 
 is 'N passed, M failed', and the status is 1 if one failed. What can't be tried on this machine is skipped, with a line.
 """
 import argparse
+import ctypes
 import json
 import os
 import shutil
@@ -23,6 +24,18 @@ PROGRAM = words.program
 has_program = bool(PROGRAM) and os.path.exists(PROGRAM)
 room = tempfile.mkdtemp(prefix="efihost-")
 apps = os.path.join(room, "apps")
+
+
+def has_landlock():
+    """Whether efihost can limit what images do; if not, it starts none without --rights."""
+    return ctypes.CDLL(None).syscall(444, None, ctypes.c_size_t(0), 1) > 0
+
+
+if not has_landlock():
+    with open(os.path.join(room, "efihost"), "w", encoding="utf-8") as file:
+        file.write(f'#!/bin/sh\nexec {EFIHOST} --rights "$@"\n')
+    EFIHOST = os.path.join(room, "efihost")
+    os.chmod(EFIHOST, 0o755)
 
 
 def expect(holds, said, ran=None):
