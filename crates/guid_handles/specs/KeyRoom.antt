@@ -2,9 +2,9 @@
 use Rattle.std.specs.Borrow.{RattleType}
 use Rattle.std.specs.declared.alloc.Allocator.{Ghosts}
 use Rattle.smallvec.specs.Iter.{SmallVecFitsInMemory}
-use denote.Builtin.{u32}
+use denote.Builtin.{usize}
 use denote.Param.{number}
 
 -- the type of a small vector with four keys in place takes fewer than 2 ^ 63 bytes
 abbrev pub InlineKeysFit : (A : RattleType) → Ghosts A.Denot → Type 0
-InlineKeysFit A alloc = SmallVecFitsInMemory u32 (number 4) A alloc
+InlineKeysFit A alloc = SmallVecFitsInMemory usize (number 4) A alloc

@@ -5,7 +5,7 @@ ghost use Rattle.guid_handles.specs.Sorting.{Ascending};
 ghost use Rattle.guid_handles.specs.Indexes.{AreInTurn, SetsKeyIn, is_bare, key_in, with_turn, without_turn};
 ghost use Rattle.guid_handles.specs.TurnSteps.{moved_turn, turn_after};
 
-use crate::searches::{count_less, count_less_than_new, is_number_at, nth_key, short_key};
+use crate::searches::{count_less, count_less_than_new, is_number_at, nth_key};
 use crate::sliding_row::SlidingRow;
 use crate::turns::Turns;
 use std::alloc::{AllocError, Allocator};
@@ -18,7 +18,7 @@ use uuid::Uuid;
 pub(crate) struct GuidGroup<A: Allocator> {
     guid: Uuid,
     holders: SlidingRow<u64, A>,
-    keys: SlidingRow<u32, A>,
+    keys: SlidingRow<usize, A>,
     turns: Turns<A>,
 }
 
@@ -119,13 +119,12 @@ impl<A: Allocator + Copy> GuidGroup<A> {
         ensures turns { OnOk result (self.new.turns ≡ with_turn handle stamp self.old.turns) }
         ensures err { OnErr result (self.new ≡ self.old) }
     {
-        let short = short_key(key)?;
         let at = count_less_than_new(self.holders.as_slice(), handle);
         self.keys.reserve()?;
         self.holders.reserve()?;
         let place = self.turns.push(handle, stamp, self.holders.len())?;
         self.holders.insert(at, handle);
-        self.keys.insert(at, short);
+        self.keys.insert(at, key);
         Ok(place)
     }
 

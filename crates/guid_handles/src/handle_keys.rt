@@ -3,7 +3,6 @@ ghost use Rattle.std.specs.Prelude.{◌≡◌, ◌≤◌, ◌==◌, ◌++◌, []
 ghost use Rattle.std.specs.List.{filter};
 ghost use Rattle.std.specs.Mem.{FitsInMemory};
 
-use crate::searches::short_key;
 use smallvec::SmallVec;
 use std::alloc::{AllocError, Allocator};
 use std::marker::Model;
@@ -41,7 +40,7 @@ fn fits_in_memory<T>(none: &Option<T>) -> bool
 /// The keys of the interfaces on a handle in order of installation.
 #[derive(Drop)]
 pub(crate) struct HandleKeys<A: Allocator + KeepsKeys> {
-    keys: SmallVec<u32, INLINE_KEYS, A>,
+    keys: SmallVec<usize, INLINE_KEYS, A>,
 }
 
 impl<A: Allocator + KeepsKeys> Model for HandleKeys<A> {
@@ -59,7 +58,7 @@ impl<A: Allocator + Copy> HandleKeys<A> {
     pub(crate) fn new(alloc: A) -> Result<HandleKeys<A>, AllocError>
         ensures { IfOk result (λ keys. keys ≡ []) }
     {
-        if !fits_in_memory(&None::<SmallVec<u32, INLINE_KEYS, A>>) {
+        if !fits_in_memory(&None::<SmallVec<usize, INLINE_KEYS, A>>) {
             return Err(AllocError);
         }
         Ok(HandleKeys {
@@ -69,7 +68,7 @@ impl<A: Allocator + Copy> HandleKeys<A> {
 
     /// The first `count` keys of a buffer, which take no memory.
     #[inline(always)]
-    pub(crate) fn few(&self, buffer: [u32; INLINE_KEYS], count: usize) -> HandleKeys<A>
+    pub(crate) fn few(&self, buffer: [usize; INLINE_KEYS], count: usize) -> HandleKeys<A>
         requires { count ≤ 4 }
         ensures { result ≡ take count buffer }
     {
@@ -88,7 +87,7 @@ impl<A: Allocator + Copy> HandleKeys<A> {
 
     /// The keys.
     #[inline]
-    pub(crate) fn as_slice(&self) -> &[u32]
+    pub(crate) fn as_slice(&self) -> &[usize]
         ensures { result.now ≡ self.now }
     {
         self.keys.as_slice()
@@ -99,7 +98,7 @@ impl<A: Allocator + Copy> HandleKeys<A> {
         ensures ok { OnOk result (self.new ≡ self.old ++ key ∷ []) }
         ensures err { OnErr result (self.new ≡ self.old) }
     {
-        self.keys.push(short_key(key)?)?;
+        self.keys.push(key)?;
         Ok(())
     }
 
@@ -108,10 +107,10 @@ impl<A: Allocator + Copy> HandleKeys<A> {
         ensures { self.new ≡ filter (λ k. not (k == key)) self.old }
     {
         self.keys.retain(
-            |k: &mut u32| -> bool
+            |k: &mut usize| -> bool
                 ensures answer { result ≡ not (k.old == key) }
                 ensures same { k.new ≡ k.old }
-            { *k as usize != key },
+            { *k != key },
         );
     }
 }

@@ -131,7 +131,7 @@ impl<A: Allocator + Copy> HandleRow<A> {
     }
 
     /// The keys.
-    pub(crate) fn keys(&self) -> &[u32]
+    pub(crate) fn keys(&self) -> &[usize]
         ensures { result.now ≡ self.now.row.keys }
     {
         self.keys.as_slice()

@@ -238,7 +238,7 @@ impl<A: Allocator + Copy> Rows<A> {
     }
 
     /// The keys of the interfaces on a handle, in order of installation.
-    pub(crate) fn keys(&self, number: u64) -> &[u32]
+    pub(crate) fn keys(&self, number: u64) -> &[usize]
         ensures { result.now ≡ keys_on self.now number }
     {
         match place_of(self.rows.as_slice(), number) {

@@ -1,5 +1,5 @@
 //! Finding numbers and interfaces.
-ghost use Rattle.std.specs.Prelude.{◌≡◌, ◌<◌, ◌≤◌, ◌==◌, true, is_some, length, not, nat_lt, map, slice_get, slice_set, IfOk};
+ghost use Rattle.std.specs.Prelude.{◌≡◌, ◌<◌, ◌≤◌, ◌==◌, true, is_some, length, not, nat_lt, map, slice_get, slice_set};
 ghost use Rattle.std.specs.List.{filter, find, AllByRecursion};
 ghost use Rattle.guid_handles.specs.HandleTables.{written_over};
 ghost use Rattle.guid_handles.specs.Sorting.{Ascending, place, kept_if};
@@ -9,7 +9,7 @@ use crate::guids::is_same_guid;
 use crate::records::{Interface, Record};
 use crate::sliding_row::SlidingRow;
 use slab::Slab;
-use std::alloc::{AllocError, Allocator};
+use std::alloc::Allocator;
 use uuid::Uuid;
 
 /// How many of some ascending numbers are less than one.
@@ -70,24 +70,11 @@ pub(crate) fn remove_number<A: Allocator>(numbers: &mut SlidingRow<u64, A>, numb
     }
 }
 
-/// A key in four bytes, if it has no more.
-pub(crate) fn short_key(key: usize) -> Result<u32, AllocError>
-    ensures { IfOk result (λ short. short ≡ key) }
-{
-    if key > u32::MAX as usize {
-        return Err(AllocError);
-    }
-    Ok(key as u32)
-}
-
 /// The key at a place, if there is one.
-pub(crate) fn nth_key(keys: &[u32], at: usize) -> Option<usize>
+pub(crate) fn nth_key(keys: &[usize], at: usize) -> Option<usize>
     ensures { result ≡ slice_get keys.now at }
 {
-    match keys.get(at) {
-        Some(key) => Some(*key as usize),
-        None => None,
-    }
+    keys.get(at).copied()
 }
 
 /// The interface at a key.
@@ -110,14 +97,14 @@ fn is_key_of<A: Allocator>(records: &Slab<Record, A>, key: usize, guid: Uuid) ->
 /// The first of some keys whose interface is of a GUID.
 pub(crate) fn find_key<A: Allocator>(
     records: &Slab<Record, A>,
-    keys: &[u32],
+    keys: &[usize],
     guid: Uuid,
 ) -> Option<usize>
     ensures { result ≡ find (is_key_of records.now.slots guid) keys.now }
 {
     for key in keys {
-        if is_key_of(records, *key as usize, guid) {
-            return Some(*key as usize);
+        if is_key_of(records, *key, guid) {
+            return Some(*key);
         }
     }
     None
@@ -135,7 +122,7 @@ fn put_guid(out: &mut [Uuid], at: usize, guid: Uuid)
 /// Writes the GUIDs at keys, as many as fit, and returns how many there are.
 pub(crate) fn write_guids<A: Allocator>(
     records: &Slab<Record, A>,
-    keys: &[u32],
+    keys: &[usize],
     out: &mut [Uuid],
 ) -> usize
     ensures count { result ≡ length (map (λ i. i.guid) (at_keys records.now.slots keys.now)) }
@@ -144,7 +131,7 @@ pub(crate) fn write_guids<A: Allocator>(
 {
     let mut count = 0;
     for at in 0..keys.len() {
-        if let Some(i) = interface_at(records, keys[at] as usize) {
+        if let Some(i) = interface_at(records, keys[at]) {
             put_guid(out, count, i.guid);
             count += 1;
         }

@@ -7,11 +7,11 @@ use Rattle.guid_handles.proofs.guid_group.GuidGroup.add.Goals as goal
 pub invariant_of-self-2 : goal.invariant_of-self-2
 invariant_of-self-2 g c =
     rw (c.insert-2.ensures, c.insert.ensures, c.reserve.ensures.items, c.reserve-2.ensures.items)
-    (insert_beside _ _ _ c.args.handle c.in_ok-short.short c.self.invariant (rw (← c.self.view_is) at c.requires.absent) (rw c.as_slice.ensures.value at c.count_less_than_new-at.ensures.place))
+    (insert_beside _ _ _ c.args.handle c.args.key c.self.invariant (rw (← c.self.view_is) at c.requires.absent) (rw c.as_slice.ensures.value at c.count_less_than_new-at.ensures.place))
 
 pub returns-clause-ok : goal.returns-clause-ok
 returns-clause-ok g c = λ n.
-    rw (← c.self.view_is, c.insert-2.ensures, c.insert.ensures, c.reserve.ensures.items, c.reserve-2.ensures.items, c.in_ok-short.ensures)
+    rw (← c.self.view_is, c.insert-2.ensures, c.insert.ensures, c.reserve.ensures.items, c.reserve-2.ensures.items)
     (beside_insert _ _ _ c.args.handle c.args.key n c.self.invariant.even (rw (← c.self.view_is) at c.requires.absent))
 
 pub insert-requires-clause-place : goal.insert-requires-clause-place
@@ -38,11 +38,8 @@ invariant_of-self-in_err-reserve-2 g c = rw (c.reserve.ensures.items, c.reserve-
 pub invariant_of-self-in_err-place : goal.invariant_of-self-in_err-place
 invariant_of-self-in_err-place g c = rw (c.reserve.ensures.items, c.reserve-2.ensures.items) c.self.invariant
 
-pub returns-in_err-short-clause-err : goal.returns-in_err-short-clause-err
-returns-in_err-short-clause-err g c = on_err c.from_residual.result _ refl
-
 pub returns-in_err-reserve-clause-err : goal.returns-in_err-reserve-clause-err
-returns-in_err-reserve-clause-err g c = on_err c.from_residual-in_err-reserve.result _ (rw (← c.self.view_is, c.reserve.ensures.items) refl)
+returns-in_err-reserve-clause-err g c = on_err c.from_residual.result _ (rw (← c.self.view_is, c.reserve.ensures.items) refl)
 
 pub returns-in_err-reserve-2-clause-err : goal.returns-in_err-reserve-2-clause-err
 returns-in_err-reserve-2-clause-err g c = on_err c.from_residual-in_err-reserve-2.result _ (rw (← c.self.view_is, c.reserve.ensures.items, c.reserve-2.ensures.items) refl)
@@ -56,15 +53,6 @@ returns-clause-guid g c = rw (← c.self.view_is) refl
 pub returns-clause-turns : goal.returns-clause-turns
 returns-clause-turns g c = rw (← c.self.view_is) c.in_ok-place.ensures.ok
 
-pub returns-in_err-short-clause-guid : goal.returns-in_err-short-clause-guid
-returns-in_err-short-clause-guid g c = refl
-
-pub returns-in_err-short-clause-ok : goal.returns-in_err-short-clause-ok
-returns-in_err-short-clause-ok g c = IfOk-from_err c.from_residual.result _ c.from_residual.ensures.0
-
-pub returns-in_err-short-clause-turns : goal.returns-in_err-short-clause-turns
-returns-in_err-short-clause-turns g c = IfOk-from_err c.from_residual.result _ c.from_residual.ensures.0
-
 pub count_less_than_new-at-requires : goal.count_less_than_new-at-requires
 count_less_than_new-at-requires g c = rw c.as_slice.ensures.value c.self.invariant.ascending
 
@@ -72,10 +60,10 @@ pub returns-in_err-reserve-clause-guid : goal.returns-in_err-reserve-clause-guid
 returns-in_err-reserve-clause-guid g c = rw (← c.self.view_is) refl
 
 pub returns-in_err-reserve-clause-ok : goal.returns-in_err-reserve-clause-ok
-returns-in_err-reserve-clause-ok g c = IfOk-from_err c.from_residual-in_err-reserve.result _ c.from_residual-in_err-reserve.ensures.0
+returns-in_err-reserve-clause-ok g c = IfOk-from_err c.from_residual.result _ c.from_residual.ensures.0
 
 pub returns-in_err-reserve-clause-turns : goal.returns-in_err-reserve-clause-turns
-returns-in_err-reserve-clause-turns g c = IfOk-from_err c.from_residual-in_err-reserve.result _ c.from_residual-in_err-reserve.ensures.0
+returns-in_err-reserve-clause-turns g c = IfOk-from_err c.from_residual.result _ c.from_residual.ensures.0
 
 pub returns-in_err-reserve-2-clause-guid : goal.returns-in_err-reserve-2-clause-guid
 returns-in_err-reserve-2-clause-guid g c = rw (← c.self.view_is) refl
