@@ -67,8 +67,8 @@ impl<D: Driver, A: Allocator + Copy> Core<D, A> {
         Core::with_pools(alloc, machine, drivers, Pools::new(alloc))
     }
 
-    /// The same, whose pool lies in memory that the machine's pages are: the bytes of a block are those at its
-    /// address.
+    /// The same, whose pool lies in memory that the machine's pages are, so that the bytes of a block are those at its
+    /// address (`Regions` of `pool_services`).
     pub fn over(
         alloc: A,
         machine: Machine<A>,

@@ -1,5 +1,6 @@
 -- The regions of extents.
 use Rattle.std.specs.Prelude.{◌≡◌, ℕ, [], length, Option, None, Some}
+use Rattle.std.specs.Option.{option_map}
 use Rattle.page_ranges.specs.declared.ranges.PageRange.{PageRange}
 use Rattle.raw_pool.specs.Blocks.{Pool, new_block, with_block}
 use Rattle.pool_services.specs.Extents.{Extent, cells_in, with_blocks}
@@ -8,6 +9,10 @@ use Rattle.pool_services.specs.Extents.{Extent, cells_in, with_blocks}
 abbrev pub LiesAt : ℕ → Option ℕ → Type 0
 LiesAt first None = Unit {0}
 LiesAt first (Some page) = page ≡ first
+
+-- where a new region lies: at its first page, if there is memory that the machine's pages are
+abbrev pub lying : {M : Type 0} → ℕ → Option M → Option ℕ
+lying first memory = option_map (λ m. first) memory
 
 -- the cells are those of a number of pages, the blocks are as many as are counted, and where the
 -- bytes lie at pages of the machine, these are the pages

@@ -7,10 +7,10 @@ mod extents;
 mod laws;
 mod listed;
 mod pools;
+mod regions;
 mod room;
 mod rooms;
 mod searches;
-mod spare;
 
 pub use laws::{
     allocated_bytes_law, filled_bytes_law, freed_bytes_law, freed_keeps_pool_law, given_pages_law,

@@ -10,7 +10,7 @@ ghost use Rattle.pool_services.specs.PoolRules.{AllocatesPool, FillsPool, FreesP
 use crate::extent_groups::ExtentGroups;
 use crate::extents::{Freed, HEADER_SIZE, PoolExtent, extent_pages, pages_for};
 use crate::listed::PoolBlock;
-use crate::spare::SpareRegion;
+use crate::regions::Regions;
 use page_ranges::{MemoryType, PAGE_SIZE, Status, type_for_alloc};
 use page_services::{PageBook, pool_request};
 use placement_certificate::{Certificate, Request};
@@ -41,10 +41,7 @@ pub fn extent_request(granule: u64, mtype: MemoryType, size: u64) -> Option<Requ
 pub struct Pools<A: Allocator = Global> {
     alloc: A,
     extents: ExtentGroups<A>,
-    // Where the blocks' bytes lie at their addresses.
-    memory: Option<PoolMemory>,
-    // The memory of an extent that ended.
-    spare: SpareRegion<A>,
+    regions: Regions<A>,
 }
 
 impl<A: Allocator> Model for Pools<A> {
@@ -65,8 +62,7 @@ impl<A: Allocator + Copy> Pools<A> {
         Pools {
             alloc,
             extents: ExtentGroups::new(alloc),
-            memory: None,
-            spare: SpareRegion::none(),
+            regions: Regions::of_heap(),
         }
     }
 
@@ -78,8 +74,7 @@ impl<A: Allocator + Copy> Pools<A> {
         Pools {
             alloc,
             extents: ExtentGroups::new(alloc),
-            memory: Some(memory),
-            spare: SpareRegion::none(),
+            regions: Regions::over(memory),
         }
     }
 
@@ -164,11 +159,11 @@ impl<A: Allocator + Copy> Pools<A> {
         let Some(chosen) = book.choose_for_pool(mtype, pages_for(size) as u64) else {
             return Err(Status::OutOfResources);
         };
-        let (memory, page) = (self.memory, chosen.first);
+        let page = chosen.first;
         let Ok(group) = self.extents.reserve(page) else {
             return Err(Status::OutOfResources);
         };
-        let Some(region) = self.spare.region(self.alloc, memory, page, pages) else {
+        let Some(region) = self.regions.region(self.alloc, page, pages) else {
             return Err(Status::OutOfResources);
         };
         // That the book's memory is proper is known of its table's length.
@@ -205,7 +200,7 @@ impl<A: Allocator + Copy> Pools<A> {
                 let range = self.extents.extent(spot).range();
                 book.give_from_pool(range)?;
                 let extent = self.extents.remove(spot);
-                self.spare.keep(extent.into_region(cell));
+                self.regions.keep(extent.into_region(cell));
                 Ok(())
             }
         }
