@@ -120,8 +120,8 @@ impl<A: Allocator + Copy> RunTable<A> {
         *self.leaves.allocator()
     }
 
-    /// Reserves memory for a number of changes besides those for which it is reserved already. On an `Err`
-    /// the table is as it was.
+    /// Reserves memory for a number of changes besides those for which it is reserved already. An `Err` means that
+    /// memory ran out, or that it would be reserved for more than 2^40 changes; the table is then as it was.
     pub fn reserve(&mut self, changes: usize) -> Result<(), AllocError>
         ensures ok { OnOk result (self.new ≡ reserving (self.old.reserved + changes) self.old) }
         ensures err { OnErr result (self.new ≡ self.old) }
