@@ -6,8 +6,10 @@ pub mod Quiet
 pub mod Follows
 pub mod Outcomes
 pub mod Soundness
+pub mod ListRules
 pub mod ProperRuns
 pub mod CountRuns
+pub mod RoomRuns
 pub mod ReadReplies
 pub mod PoolBytes
 pub mod LastBytes

@@ -13,7 +13,8 @@ use Rattle.page_services.specs.PageRules.{fixed_address}
 use Rattle.pool_services.specs.Extents.{Extent, tail_at}
 use Rattle.pool_services.specs.Laws.{byte_at, first_of, is_among, laid}
 use Rattle.open_agents.specs.OpenItems.{items_on, once_more}
-use Rattle.driver_connect.specs.Drivers.{Meaning}
+use Rattle.driver_connect.specs.Drivers.{HasShortPlans, Meaning}
+use Rattle.protocol_services.specs.Lists.{HasRoom}
 use Rattle.protocol_services.specs.ListBytes.{handle_bytes, item_bytes}
 use Rattle.protocol_services.specs.ProperLists.{AreProperLists}
 use Rattle.protocol_services.specs.Searches.{found_handles}
@@ -70,6 +71,17 @@ CountLaw S A =
     → CallRunBy S (prepared_state placements certifies machine) calls replies new →
     AllByRecursion (λ o. (o.count ≤ length calls)
     × (length calls ≤ all_calls → once_more o.count ≡ o.count + 1)) new.parts.lists.opens
+
+-- After no more calls than a machine serves, the last number and the last stamp are far enough from
+-- their ends for another call: so no call of the run returns OUT_OF_RESOURCES since these ran out.
+-- The drivers' plans are those that a `StartPlan` has room for.
+abbrev pub RoomLaw : Setting → Type 0 → Type 0
+RoomLaw S A =
+    AllByRecursion HasShortPlans S.drivers
+    → (placements : ℕ) (certifies : Bool) (machine : MachineValue) (calls : List (Call A))
+    (replies : List (Reply A)) (new : State)
+    → CallRunBy S (prepared_state placements certifies machine) calls replies new
+    → length calls ≤ all_calls → HasRoom new.parts.lists
 
 -- ---- keys
 

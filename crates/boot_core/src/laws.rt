@@ -1,7 +1,7 @@
 //! The laws of the machine, each the contract of a function that does nothing.
 ghost use Rattle.std.specs.Prelude.{List};
 ghost use Rattle.driver_connect.specs.Drivers.{Meaning};
-ghost use Rattle.boot_core.specs.Laws.{AcceptanceLaw, AnyRunLaw, AnyStepLaw, CertificateLaw, CountLaw, FreeMemoryLaw, KeyCountLaw, KeyLaw, LastBytesLaw, MapGrowthLaw, MapStepLaw, PoolBytesLaw, ProperListsLaw, ReadBytesLaw, ReadStepLaw, RecordEntriesLaw, SoundLaw};
+ghost use Rattle.boot_core.specs.Laws.{AcceptanceLaw, AnyRunLaw, AnyStepLaw, CertificateLaw, CountLaw, FreeMemoryLaw, KeyCountLaw, KeyLaw, LastBytesLaw, MapGrowthLaw, MapStepLaw, PoolBytesLaw, ProperListsLaw, ReadBytesLaw, ReadStepLaw, RecordEntriesLaw, RoomLaw, SoundLaw};
 ghost use Rattle.boot_core.specs.PathSteps.{LocateStepLaw};
 ghost use Rattle.boot_core.specs.Removals.{UninstallRunLaw};
 ghost use Rattle.boot_core.specs.Steps.{any_starts, best_starts};
@@ -62,6 +62,13 @@ pub fn proper_lists_law<A: Allocator>()
 pub fn count_law<A: Allocator>()
     ensures best { (ds : List Meaning) → CountLaw (best_starts ds) A }
     ensures any { (ds : List Meaning) → CountLaw (any_starts ds) A }
+{}
+
+/// Within the 2^31 calls of a machine, numbers of handles and stamps of interfaces do not run out: no call returns
+/// OUT_OF_RESOURCES for want of one. The drivers' plans are those that a `StartPlan` has room for.
+pub fn room_law<A: Allocator>()
+    ensures best { (ds : List Meaning) → RoomLaw (best_starts ds) A }
+    ensures any { (ds : List Meaning) → RoomLaw (any_starts ds) A }
 {}
 
 /// While memory is reserved for a call of FreePages, FreePages does not return OUT_OF_RESOURCES. FreePool never does.

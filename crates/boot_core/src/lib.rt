@@ -19,10 +19,10 @@ pub use driver_connect::{Agent, DriverTurns};
 pub use guid_handles::Interface;
 pub use kept_maps::map_before;
 pub use laws::{
-    acceptance_law, any_run_law, any_step_law, free_memory_law, key_count_law, key_law,
-    last_bytes_law, locate_step_law, map_growth_law, map_step_law, pool_bytes_law,
-    proper_lists_law, read_bytes_law, read_step_law, record_entries_law, sound_law,
-    uninstall_run_law,
+    acceptance_law, any_run_law, any_step_law, certificate_law, count_law, free_memory_law,
+    key_count_law, key_law, last_bytes_law, locate_step_law, map_growth_law, map_step_law,
+    pool_bytes_law, proper_lists_law, read_bytes_law, read_step_law, record_entries_law, room_law,
+    sound_law, uninstall_run_law,
 };
 pub use open_agents::{Manager, OpenItem, OpenRecord};
 pub use pool_services::{PoolBlock, PoolMemory};

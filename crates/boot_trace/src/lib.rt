@@ -5,7 +5,7 @@ mod laws;
 mod listings;
 mod runner;
 
-pub use certificate_blocks::{BlockFault, check_block};
+pub use certificate_blocks::{BlockFault, block_read_back_law, check_block};
 pub use laws::{map_entries_law, printed_blocks_law, printed_maps_law};
 pub use machine_files::{DriverField, MachineFault, MachineFile, MemberField, read_machine};
 pub use runner::{run, run_line};

@@ -48,4 +48,4 @@ turn_counts m c p a l h = elim (cases_Bool (is_supported c p a)) [
 
 -- a connect raises no count above a bound of 1 or more
 pub connect_counts : (m k : ℕ) (c : Site) (named : List ℕ) (p : Progress) → 0 < m → CountUpTo m p.opens → CountUpTo m (connected k c named p).opens
-connect_counts m k c named p l h = by_connect (λ p. CountUpTo m p.opens) (λ c p a g. turn_counts m c p a l g) k c named p h
+connect_counts m k c named p l h = by_connect (λ ds. Unit {0}) (λ p. CountUpTo m p.opens) (λ c p a ds g. turn_counts m c p a l g) k c named p tt h

@@ -1,6 +1,6 @@
 -- What a driver is shown of a handle, and what it answers.
-use Rattle.std.specs.Prelude.{ℕ, ◌&&◌, nat_lt, Bool, false, not, List, [], ◌∷◌, map, length, Option, Some, None}
-use Rattle.std.specs.List.{filter, list_all, list_any, slice_get}
+use Rattle.std.specs.Prelude.{ℕ, ◌≤◌, ◌&&◌, nat_lt, Bool, false, not, List, [], ◌∷◌, map, length, Option, Some, None}
+use Rattle.std.specs.List.{filter, list_all, list_any, slice_get, AllByRecursion}
 use Rattle.std.specs.Option.{option_map}
 use Rattle.guid_handles.specs.declared.records.Interface.{Interface}
 use Rattle.guid_handles.specs.HandleTables.{HandleTable, same_guid, is_on, value_at}
@@ -27,6 +27,14 @@ pub record Meaning : Type 0 where
   pub supports : ViewValue → Bool
   pub plan : ViewValue → Plan
   pub may_stop : ViewValue → Bool
+
+-- each child of a plan has at most four interfaces, as a `StartPlan` has room for
+abbrev pub IsShortPlan : Plan → Type 0
+IsShortPlan plan = AllByRecursion (λ pairs. length pairs ≤ 4) plan.children
+
+-- each plan of the driver is one that a `StartPlan` has room for
+abbrev pub HasShortPlans : Meaning → Type 0
+HasShortPlans m = (s : ViewValue) → IsShortPlan (m.plan s)
 
 -- ---- what is shown
 

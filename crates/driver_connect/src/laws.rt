@@ -1,9 +1,14 @@
 //! The laws of stopping and connecting, each the contract of a function that does nothing.
+ghost use Rattle.driver_connect.specs.Drivers.{HasShortPlans, IsShortPlan, fixed_meaning};
 ghost use Rattle.driver_connect.specs.DriverTurns.{OrderLaw, TurnsLaw};
 ghost use Rattle.driver_connect.specs.Laws.{GoneLaw, MakersItemLaw, NothingCarriedOutLaw, ReadyLaw, RoundsLaw, StaysLaw, StopSetLaw, VersionsLaw};
 ghost use Rattle.driver_connect.specs.StopOrder.{StopOrderLaw};
 ghost use Rattle.driver_connect.specs.StartOrder.{StartOrderLaw};
 ghost use Rattle.driver_connect.specs.Turns.{StartsLaw, TriedOnceLaw};
+
+use crate::driver::Driver;
+use crate::table::TableDriver;
+use crate::view::View;
 
 /// The stop set of some pairs holds them and the managers of all handles that its pairs made, and it
 /// is the least set that does.
@@ -25,6 +30,21 @@ pub fn gone_law()
 pub fn stays_law()
     ensures { StaysLaw }
 {}
+
+/// Each child in a plan has at most four interfaces, whatever driver answers with it.
+pub fn short_plan_law<D: Driver>(driver: &D, view: &View)
+    ensures { IsShortPlan ((D.meaning driver.now).plan view.now) }
+{
+    driver.plan(view).short_law();
+}
+
+/// So has each child in the plan of a driver that is a table, whatever it is shown.
+pub fn table_plans_law(driver: &TableDriver)
+    ensures { HasShortPlans (fixed_meaning driver.now.version driver.now.needs.items
+        driver.now.plan driver.now.stops) }
+{
+    driver.plan.short_law();
+}
 
 /// Drivers are tried by version downwards, and those of one version keep their order.
 pub fn versions_law()

@@ -28,8 +28,8 @@ pub use driver::Driver;
 pub use driver_turns::{DriverTurns, begin_turns};
 pub use laws::{
     gone_law, makers_item_law, nothing_carried_out_law, order_law, ready_law, rounds_law,
-    start_order_law, starts_law, stays_law, stop_order_law, stop_set_law, tried_once_law,
-    turns_law, versions_law,
+    short_plan_law, start_order_law, starts_law, stays_law, stop_order_law, stop_set_law,
+    table_plans_law, tried_once_law, turns_law, versions_law,
 };
 pub use readiness::is_ready_after;
 pub use reconnecting::replace_and_connect;

@@ -1,6 +1,6 @@
 //! What a driver is shown of a handle, and what it answers to be done.
 ghost use Rattle.std.specs.Prelude.{◌≡◌};
-ghost use Rattle.driver_connect.specs.Drivers.{no_plan};
+ghost use Rattle.driver_connect.specs.Drivers.{IsShortPlan, no_plan};
 
 use arrayvec::ArrayVec;
 use std::marker::Model;
@@ -70,6 +70,16 @@ impl StartPlan {
         StartPlan {
             opens: ArrayVec::new(),
             children: ArrayVec::new(),
+        }
+    }
+
+    /// Each child has at most four interfaces.
+    pub(crate) fn short_law(&self)
+        ensures { IsShortPlan self.now }
+    {
+        let children = self.children.as_slice();
+        for child in children {
+            let _pairs = child.as_slice();
         }
     }
 }

@@ -5,6 +5,7 @@ pub mod ListSizes
 pub mod Raised
 pub mod Freed
 pub mod CountRules
+pub mod RoomRules
 pub mod NewInterfaces
 pub mod ProperTables
 pub mod ProperItems

@@ -1,7 +1,7 @@
 -- The rules of the protocol services keep their lists proper.
-use Rattle.std.proofs.Common.{◌≡◌, ℕ, ◌==◌, ◌&&◌, ◌||◌, nat_lt, not, Bool, true, false, List, [], ◌∷◌, length, Option, Some, None, Result, Ok, Err, inl, inr, refl, sym, ◌∙◌, subst}
+use Rattle.std.proofs.Common.{◌≡◌, ℕ, ◌≤◌, ◌==◌, ◌&&◌, ◌||◌, nat_lt, not, Bool, true, false, List, [], ◌∷◌, length, Option, Some, None, Result, Ok, Err, inl, inr, refl, sym, ◌∙◌, subst, arith}
 use Rattle.std.specs.List.{filter, list_any, list_all}
-use Rattle.std.proofs.lemmas.Bool.{cases_Bool, and_parts, not-true, or_parts}
+use Rattle.std.proofs.lemmas.Bool.{cases_Bool, and_parts, ltb-false, not-true, or_parts}
 use Rattle.std.proofs.lemmas.Bool.Decides.{eqb_tells}
 use Rattle.page_ranges.specs.declared.statuses.Status.{Status}
 use Rattle.page_ranges.specs.declared.statuses.Status.TheVariants as status
@@ -36,7 +36,8 @@ same old new s e = subst AreProperLists (sym e) s
 -- ---- installing
 
 -- what is known where an installation is not refused
-record CanInstall (t : HandleTable) (handle : ℕ) (pairs : List (List ℕ × ℕ)) : Type 0 where
+pub record CanInstall (t : HandleTable) (handle : ℕ) (pairs : List (List ℕ × ℕ)) : Type 0 where
+  pub few : length pairs ≤ max_installed
   dead : is_dead t handle ≡ false
   taken : list_any (λ p. is_taken t handle p.0) pairs ≡ false
   once : has_guid_twice pairs ≡ false
@@ -52,9 +53,9 @@ one_allowed t handle guid value kind e =
     let a = none_refused (not (kind == 0) || (is_dead t handle || is_taken t handle guid)) (past_limit t handle) e in
     let b = or_parts (not (kind == 0)) (is_dead t handle || is_taken t handle guid) a.0 in
     let c = or_parts (is_dead t handle) (is_taken t handle guid) b.1 in
-    record { dead = c.0; taken = rw c.1 refl; once = refl; limit = a.1 }
+    record { few = omega arith; dead = c.0; taken = rw c.1 refl; once = refl; limit = a.1 }
 
-many_allowed : (t : HandleTable) (handle : ℕ) (pairs : List (List ℕ × ℕ)) → install_many_refusal t handle pairs ≡ None → CanInstall t handle pairs
+pub many_allowed : (t : HandleTable) (handle : ℕ) (pairs : List (List ℕ × ℕ)) → install_many_refusal t handle pairs ≡ None → CanInstall t handle pairs
 many_allowed t handle pairs e =
     let taken : Bool = list_any (λ p. is_taken t handle p.0) pairs in
     let a = none_refused ((length pairs == 0) || (nat_lt max_installed (length pairs) || (is_dead t handle || (has_guid_twice pairs || taken)))) (past_limit t handle) e in
@@ -62,9 +63,9 @@ many_allowed t handle pairs e =
     let c = or_parts (nat_lt max_installed (length pairs)) (is_dead t handle || (has_guid_twice pairs || taken)) b.1 in
     let d = or_parts (is_dead t handle) (has_guid_twice pairs || taken) c.1 in
     let f = or_parts (has_guid_twice pairs) taken d.1 in
-    record { dead = d.0; taken = f.1; once = f.0; limit = a.1 }
+    record { few = ltb-false max_installed (length pairs) c.0; dead = d.0; taken = f.1; once = f.0; limit = a.1 }
 
-unless_none : (has_path : Bool) (r : Option Status) → unless_path has_path r ≡ None → r ≡ None
+pub unless_none : (has_path : Bool) (r : Option Status) → unless_path has_path r ≡ None → r ≡ None
 unless_none false r e = e
 unless_none true None e = refl
 unless_none true (Some status.InvalidParameter) e = cc
