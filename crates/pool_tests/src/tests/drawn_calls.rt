@@ -89,20 +89,18 @@ fn give(rt: &impl Abort, pool: &mut RawPool, blocks: &mut Vec<Block>, cell: usiz
 
 /// Writes bytes into a block of the list, and returns whether they lie in one.
 fn write_listed(blocks: &mut [Block], cell: usize, at: usize, bytes: &[u8]) -> bool {
-    let end = at.saturating_add(bytes.len());
     let Some(index) = blocks.iter().position(|block| block.cell == cell) else {
         return false;
     };
-    let Some(block) = blocks.get_mut(index) else {
+    if index >= blocks.len() {
         return false;
-    };
-    match block.bytes.as_mut_slice().get_mut(at..end) {
-        Some(part) if part.len() == bytes.len() => {
-            part.copy_from_slice(bytes);
-            true
-        }
-        _ => false,
     }
+    let held = blocks[index].bytes.as_mut_slice();
+    if at > held.len() || bytes.len() > held.len() - at {
+        return false;
+    }
+    held[at..at + bytes.len()].copy_from_slice(bytes);
+    true
 }
 
 /// Whether the region has this block at a cell, with its bytes, or has none there.
