@@ -214,6 +214,8 @@ int main(int count, char **words)
     make_graphics();
     make_serial(host.options.serial, host.options.serial_input);
     drop_rights();
+    if (host.signalled)
+        heed_signals();
     run_on_stack();
     return ENDED_NEVER_RAN;
 }
