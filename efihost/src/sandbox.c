@@ -234,6 +234,8 @@ static struct ruleset all_of(long version)
 {
     struct ruleset all = {REFER - 1, 0, 0};
 
+    if (version <= 0)
+        cannot("it has no Landlock");
     if (version >= 2)
         all.files |= REFER;
     if (version >= 3)
@@ -267,15 +269,16 @@ static void limit_files(bool only_folders)
 {
     long version = syscall(SYS_landlock_create_ruleset, NULL, 0, LANDLOCK_CREATE_RULESET_VERSION);
     struct ruleset all = all_of(version);
-    int rules = -1;
+    int rules = (int)syscall(SYS_landlock_create_ruleset, &all, sizeof all, 0);
 
-    if (version > 0)
-        rules = (int)syscall(SYS_landlock_create_ruleset, &all, sizeof all, 0);
     if (rules < 0)
-        cannot("it has no Landlock");
-    for (size_t i = 0; i < named_count; i++)
+        cannot("Landlock limits nothing");
+    for (size_t i = 0; i < named_count; i++) {
+        if (named[i].is_folder && named[i].rights == LISTING && (all.files & TRUNCATE) == 0)
+            cannot("Landlock before Linux 6.2 lets files of a read-only folder be emptied");
         if (!only_folders || named[i].is_folder)
             allow(rules, named[i].name, named[i].rights & all.files);
+    }
 #ifdef __SANITIZE_ADDRESS__
     allow(rules, "/proc/self", READING);
 #endif
