@@ -15,6 +15,7 @@
 #include <stdlib.h>
 #include <string.h>
 #include <sys/ioctl.h>
+#include <sys/mman.h>
 #include <sys/prctl.h>
 #include <sys/stat.h>
 #include <sys/syscall.h>
@@ -316,6 +317,8 @@ static int allow_exact_calls(scmp_filter_ctx filter)
 
     failed |= seccomp_rule_add(filter, SCMP_ACT_ALLOW, SCMP_SYS(writev), 1,
                                SCMP_A0(SCMP_CMP_EQ, STDERR_FILENO));
+    failed |= seccomp_rule_add(filter, SCMP_ACT_ALLOW, SCMP_SYS(madvise), 1,
+                               SCMP_A2(SCMP_CMP_EQ, MADV_DONTNEED));
     for (size_t i = 0; i < LENGTH(terminal_calls); i++)
         failed |= seccomp_rule_add(filter, SCMP_ACT_ALLOW, SCMP_SYS(ioctl), 2,
                                    SCMP_A0(SCMP_CMP_EQ, terminal_calls[i].descriptor),
