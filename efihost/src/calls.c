@@ -52,7 +52,8 @@ void begin(struct call *call, const char *name, uint64_t caller, const uint64_t 
     call->caller = caller;
     call->number = ++host.calls;
     call->slot = host.calls % LAST;
-    call->outer = host.call;
+    if (host.call != call)
+        call->outer = host.call;
     host.call = call;
     last[call->slot].name = name;
     last[call->slot].caller = caller;
@@ -63,6 +64,8 @@ void begin(struct call *call, const char *name, uint64_t caller, const uint64_t 
         image->calls++;
     if (host.signalled)
         heed_signals();
+    if (call->frame - host.stack < SERVICE_STACK)
+        finish(ENDED_BY_FAULT, "the stack is used up, in %s called by %s", name, where(caller));
 }
 
 /* The same for a boot service. False where they have ended, and the caller must not. */
@@ -93,15 +96,18 @@ EFI_STATUS leave(struct call *call, EFI_STATUS status)
 }
 
 /* Whether the bytes before an address are a call instruction. */
-static bool behind_call(const struct image *image, uint64_t address)
+bool behind_call(const struct image *image, uint64_t address)
 {
     const uint8_t *at = POINTER(address);
 
     if (address - image->base < 8)
         return false;
-    return at[-5] == 0xe8 || (at[-2] == 0xff && (at[-1] & 0x38) == 0x10) ||
-           (at[-3] == 0xff && (at[-2] & 0x38) == 0x10) ||
-           (at[-6] == 0xff && (at[-5] & 0x38) == 0x10);
+    if (at[-5] == 0xe8)
+        return true;
+    for (int size = 2; size <= 7; size++) /* by a register, or by a word in memory */
+        if (at[-size] == 0xff && (at[1 - size] & 0x38) == 0x10 && size != 5)
+            return true;
+    return false;
 }
 
 /* How many words of the stack, from `at` on, may be looked at. */

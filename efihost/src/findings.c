@@ -23,7 +23,8 @@ const char *finding_name(enum finding kind)
 {
     static const char *const names[FINDING_KINDS] = {
         "behind-block", "before-block", "use-after-free", "free-not-live", "never-placed",
-        "run-border",   "image-rights", "leak",           "stale-key",     "after-exit"};
+        "run-border",   "image-rights", "leak",           "stale-key",     "after-exit",
+        "data-executed"};
 
     return names[kind];
 }
@@ -66,23 +67,10 @@ void found(enum finding kind, const struct origin *origin, const char *format, .
     print_finding(one);
 }
 
-/* With --guard the run ends at an access that should not be, of an image or of a service that it
- * called. */
-void stop_at_access(uint64_t instruction)
-{
-    if (!host.options.guard)
-        return;
-    if (image_at(instruction) == NULL && host.call != NULL)
-        finish(ENDED_WITH_FINDINGS, "stopped in %s called by %s", host.call->name,
-               where(host.call->caller));
-    finish(ENDED_WITH_FINDINGS, "stopped at %s", where(instruction));
-}
-
 /* An access to memory of the machine that is shut: whose it is, or was. */
-void found_access(uint64_t address, uint64_t instruction, bool write)
+void found_access(uint64_t address, uint64_t instruction, const char *how)
 {
     struct origin origin = origin_at(instruction);
-    const char *how = write ? "write to" : "read of";
     struct block *block = ledger_block_around(address);
     struct freed *freed = ledger_freed_with(address);
     struct run *run = ledger_run_beside(address);
@@ -104,7 +92,6 @@ void found_access(uint64_t address, uint64_t instruction, bool write)
               origin_text(&freed->freed));
     else
         found(NEVER_PLACED, &origin, "%s 0x%lx, in a page that nobody placed", how, address);
-    stop_at_access(instruction);
 }
 
 /* ---- What an image left ---- */

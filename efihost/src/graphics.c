@@ -97,8 +97,11 @@ static EFI_STATUS EFIAPI transfer(EFI_GRAPHICS_OUTPUT_PROTOCOL *this, uint32_t *
         if (operation == BLT_VIDEO_FILL)
             for (UINTN x = 0; x < width; x++)
                 to[x] = *buffer;
-        else
+        else {
+            touch(from, width * 4, false);
+            touch(to, width * 4, true);
             memmove(to, from, width * 4);
+        }
     }
     ANSWER(EFI_SUCCESS);
 }

@@ -12,6 +12,7 @@
 #define PAGE 4096ULL
 #define TRAIL 6
 #define RED_PAGES 16ULL /* those below the stack, which are shut */
+#define SERVICE_STACK 65536ULL /* at its end, which services need */
 #define MAX_DISKS 16
 #define MAX_DRIVERS 128
 #define MAX_ARGUMENTS 256
@@ -48,7 +49,7 @@ struct options {
     const char *disks[MAX_DISKS], *drivers[MAX_DRIVERS], *arguments[MAX_ARGUMENTS];
     bool disk_read_only[MAX_DISKS];
     size_t disk_count, driver_count, argument_count;
-    bool check, guard, strict, quiet, plain, certify, rights, snapshot;
+    bool check, guard, strict, quiet, plain, certify, rights, snapshot, require_nx;
     unsigned seconds;
 };
 
@@ -64,6 +65,7 @@ struct host {
     bool exited, checks;
     bool over_memory; /* a block of the core's pool is at its address */
     bool in_pool;     /* the core's pool is being called */
+    volatile bool ending; /* the report is being written */
     uint64_t calls;
     volatile bool signalled; /* a signal waits for the host's own code */
     uint64_t images_start, images_end; /* all images that there ever were lie between */
@@ -152,19 +154,25 @@ uint64_t core_locate_path(const void *guid, const uint8_t *path, size_t length, 
 /* ---- calls.c: who calls which service ---- */
 #define HERE NUMBER(__builtin_return_address(0))
 #define FRAME NUMBER(__builtin_frame_address(0)) /* above it is the return address */
-#define SERVICE(name, ...) SERVICE_AT(name, HERE, __VA_ARGS__)
-#define SERVICE_AT(name, where, ...)                                                              \
-    struct call this_call = {.frame = FRAME};                                                     \
-    if (!enter(&this_call, name, where, (const uint64_t[4]){__VA_ARGS__}))                        \
+#define SERVICE(title, ...) SERVICE_AT(title, HERE, __VA_ARGS__)
+/* The call is known before its arguments are looked at, which may be by a bad pointer. */
+#define BEGIN(title, where)                                                                       \
+    struct call this_call = {                                                                     \
+        .name = title, .caller = where, .frame = FRAME, .outer = host.call};                      \
+    host.call = &this_call
+#define SERVICE_AT(title, where, ...)                                                             \
+    BEGIN(title, where);                                                                          \
+    if (!enter(&this_call, title, where, (const uint64_t[4]){__VA_ARGS__}))                       \
     return leave(&this_call, EFI_UNSUPPORTED)
 #define ANSWER(status) return leave(&this_call, (status))
 /* A service that stays after boot services have ended. */
-#define RUNTIME_SERVICE(name, ...)                                                                \
-    struct call this_call = {.frame = FRAME};                                                     \
-    begin(&this_call, name, HERE, (const uint64_t[4]){__VA_ARGS__})
+#define RUNTIME_SERVICE(title, ...)                                                               \
+    BEGIN(title, HERE);                                                                           \
+    begin(&this_call, title, HERE, (const uint64_t[4]){__VA_ARGS__})
 void begin(struct call *call, const char *name, uint64_t caller, const uint64_t *arguments);
 bool enter(struct call *call, const char *name, uint64_t caller, const uint64_t *arguments);
 EFI_STATUS leave(struct call *call, EFI_STATUS status);
+bool behind_call(const struct image *image, uint64_t address);
 struct origin origin_at(uint64_t caller);
 struct origin origin_now(void);
 struct origin origin_without_trail(void);
@@ -181,11 +189,14 @@ struct machine_range {
     uint64_t start, pages, attributes;
     uint32_t type;
     bool mapped;
-    uint8_t *open; /* a bit for each page that may be used in every way */
+    int usual;        /* the rights with which its pages were mapped */
+    uint8_t *changed; /* for each page, in which of these rights it differs */
 };
 void make_machine(const char *file);
 const struct machine_range *machine_range_at(uint64_t address);
 bool conventional_range(uint64_t address, uint64_t *start, uint64_t *size);
+uint32_t memory_type(uint64_t address);
+int memory_rights(uint64_t address);
 void protect_memory(uint64_t address, uint64_t size, int rights);
 void open_memory(uint64_t address, uint64_t size);
 void shut_memory(uint64_t address, uint64_t size);
@@ -271,6 +282,7 @@ enum finding {
     LEAK,
     STALE_KEY,
     AFTER_EXIT,
+    DATA_EXECUTED,
     FINDING_KINDS,
 };
 void found(enum finding kind, const struct origin *origin, const char *format, ...)
@@ -279,8 +291,7 @@ size_t findings_count(void);
 const char *finding_name(enum finding kind);
 void write_findings(FILE *file);
 void write_text(FILE *file, const char *text);
-void found_access(uint64_t address, uint64_t instruction, bool write);
-void stop_at_access(uint64_t instruction);
+void found_access(uint64_t address, uint64_t instruction, const char *how);
 void look_for_leaks(struct image *image, const char *when);
 
 /* ---- report.c, left.c ---- */
@@ -309,13 +320,15 @@ struct image {
     uint64_t placed, base, pages, size, entry, calls;
     char name[64];
     uint16_t subsystem;
-    bool started, gone, rights_noted;
+    bool started, gone;
+    bool nx_compatible; /* it says that memory of data types may be without execution */
+    bool ran_data;      /* and a line has said that it executes some */
     sigjmp_buf back;
     EFI_STATUS status;
     UINTN exit_size;
     CHAR16 *exit_data;
     struct image *below, *next;
-    struct section sections[32];
+    struct section *sections;
     size_t section_count;
     struct symbol *symbols;
     size_t symbol_count;
@@ -407,6 +420,7 @@ enum stopped stop_drivers_on(uint64_t handle, const void *guid);
 #define SCREEN_ROWS 25
 void make_console(void);
 void restore_terminal(void);
+void restore_keys(void);
 void open_screen(const char *name);
 void screen_put(int row, int column, CHAR16 letter, int attribute);
 void screen_clear(int attribute);
@@ -444,11 +458,26 @@ void save_picture(void);
 void write_picture(FILE *file, const uint32_t *pixels, unsigned width, unsigned height);
 void make_serial(const char *to, const char *from);
 
-/* ---- faults.c, instructions.c, sandbox.c ---- */
+/* ---- words.c ---- */
+struct words {
+    char text[512];
+    size_t used;
+};
+void say_text(struct words *to, const char *text);
+void say_number(struct words *to, uint64_t number);
+void say_place(struct words *to, uint64_t address);
+NO_RETURN void end_with(struct words *words, enum ending ending);
+
+/* ---- faults.c, instructions.c, execution.c, sandbox.c ---- */
 void catch_faults(void);
 void heed_signals(void);
-const char *pass_over(void *context, bool only_name);
+bool pass_over(void *context);
+bool is_privileged(uint64_t at);
 void print_passed_over(FILE *file);
+void say_instruction(struct words *to, uint64_t at);
+void say_refusal(struct words *to, int signal, const void *context);
+uint64_t caller_of(uint64_t stack);
+bool let_run(uint64_t address, uint64_t caller);
 void keep_named_files(void);
 void drop_rights(void);
 

@@ -179,6 +179,7 @@ EFI_STATUS EFIAPI LoadImage(BOOLEAN policy, EFI_HANDLE parent, EFI_DEVICE_PATH_P
 
     if (handle == NULL || image_of(parent) == NULL || (data == NULL && path == NULL))
         ANSWER(EFI_INVALID_PARAMETER);
+    touch(data, data == NULL ? 0 : size, false);
     if (data == NULL)
         bytes = read_by_path(path, policy != 0, &length);
     if (bytes == NULL)
@@ -268,8 +269,7 @@ EFI_STATUS EFIAPI ExitBootServices(EFI_HANDLE handle, UINTN key)
     count_left();
     signal_exit_boot_services();
     host.exited = true;
-    if (host.checks)
-        open_all_memory();
+    open_all_memory();
     fflush(stdout);
     if (!host.options.quiet)
         fprintf(stderr, "efihost: boot services are exited by %s\n", where(this_call.caller));

@@ -1,151 +1,221 @@
-/* Instructions that a process may not carry out. Each is passed over and counted: an input port
- * reads as all ones, a register of the system as what a firmware leaves there. */
+/* Instructions that the processor refuses to a process. Zydis decodes them. It allocates nothing,
+ * so a signal handler may use it.
+ *
+ * Some privileged instructions are passed over and counted: an input port reads as all ones, a
+ * register of the system as what a firmware leaves there. */
 #include "host.h"
 
+#include <Zydis/Zydis.h>
+#include <signal.h>
+#include <sys/mman.h>
 #include <ucontext.h>
 
-enum kind { FLAGS, HALT, INPUT, OUTPUT, MODEL, CONTROL, DEBUG, CACHE, KINDS };
-static const char *const names[KINDS] = {"cli or sti", "hlt",   "in",      "out",
-                                         "msr",        "mov cr", "mov dr", "invd or wbinvd"};
-static uint64_t counts[KINDS];
+#define INT3 0xcc
 
-struct decoded {
-    const uint8_t *at;
-    bool short_operand, repeated;
-    uint8_t rex;
+enum exception { DIVISION = 0, OVERFLOW = 4 };
+
+static uint64_t counts[ZYDIS_MNEMONIC_MAX_VALUE + 1];
+
+struct instruction {
+    ZydisDecodedInstruction it;
+    ZydisDecodedOperand operands[ZYDIS_MAX_OPERAND_COUNT];
 };
 
-static struct decoded decode(const uint8_t *at)
-{
-    struct decoded it = {at, false, false, 0};
+/* The general registers of a context, in the order of their numbers. */
+static const int numbered[16] = {REG_RAX, REG_RCX, REG_RDX, REG_RBX, REG_RSP, REG_RBP,
+                                 REG_RSI, REG_RDI, REG_R8,  REG_R9,  REG_R10, REG_R11,
+                                 REG_R12, REG_R13, REG_R14, REG_R15};
 
-    for (;; it.at++) {
-        if (*it.at == 0x66)
-            it.short_operand = true;
-        else if (*it.at == 0xf2 || *it.at == 0xf3)
-            it.repeated = true;
-        else if ((*it.at & 0xf0) == 0x40)
-            it.rex = *it.at;
-        else
-            return it;
-    }
+/* Decodes an instruction of an image; the page after its own is read only if it may be. */
+static bool decode(uint64_t at, struct instruction *to)
+{
+    size_t left = PAGE - at % PAGE, most = ZYDIS_MAX_INSTRUCTION_LENGTH;
+    ZydisDecoder decoder;
+
+    if (left < most && (memory_rights(at + left) & PROT_READ) == 0)
+        most = left;
+    ZydisDecoderInit(&decoder, ZYDIS_MACHINE_MODE_LONG_64, ZYDIS_STACK_WIDTH_64);
+    return ZYAN_SUCCESS(
+        ZydisDecoderDecodeFull(&decoder, POINTER(at), most, &to->it, to->operands));
 }
 
-static greg_t *register_of(greg_t *registers, uint8_t form, uint8_t rex)
+static bool is_passed_over(const ZydisDecodedInstruction *it)
 {
-    static const int order[16] = {REG_RAX, REG_RCX, REG_RDX, REG_RBX, REG_RSP, REG_RBP,
-                                  REG_RSI, REG_RDI, REG_R8,  REG_R9,  REG_R10, REG_R11,
-                                  REG_R12, REG_R13, REG_R14, REG_R15};
-
-    return &registers[order[(form & 7) | ((rex & 1) != 0 ? 8 : 0)]];
-}
-
-/* The length of an instruction of two bytes, and its kind; 0 where it is another. */
-static unsigned long_form(const struct decoded *it, greg_t *registers, bool name, enum kind *kind)
-{
-    static const greg_t control[8] = {0x80010033, 0, 0, 0x100000, 0x668, 0, 0, 0};
-
-    switch (it->at[1]) {
-    case 0x30:
-        *kind = MODEL;
-        return 2;
-    case 0x32:
-        *kind = MODEL;
-        if (!name)
-            registers[REG_RAX] = registers[REG_RDX] = 0;
-        return 2;
-    case 0x06:
-    case 0x08:
-    case 0x09:
-        *kind = CACHE;
-        return 2;
-    case 0x20:
-    case 0x21:
-        *kind = it->at[1] == 0x20 ? CONTROL : DEBUG;
-        if (!name)
-            *register_of(registers, it->at[2], it->rex) =
-                *kind == CONTROL ? control[it->at[2] >> 3 & 7] : 0;
-        return 3;
-    case 0x22:
-    case 0x23:
-        *kind = it->at[1] == 0x22 ? CONTROL : DEBUG;
-        return 3;
+    switch (it->mnemonic) {
+    case ZYDIS_MNEMONIC_CLI:
+    case ZYDIS_MNEMONIC_STI:
+    case ZYDIS_MNEMONIC_HLT:
+    case ZYDIS_MNEMONIC_RDMSR:
+    case ZYDIS_MNEMONIC_WRMSR:
+    case ZYDIS_MNEMONIC_CLTS:
+    case ZYDIS_MNEMONIC_INVD:
+    case ZYDIS_MNEMONIC_WBINVD:
+        return true;
+    case ZYDIS_MNEMONIC_MOV: /* of a control or debug register */
+        return (it->attributes & ZYDIS_ATTRIB_IS_PRIVILEGED) != 0;
     default:
-        return 0;
+        return it->meta.category == ZYDIS_CATEGORY_IO ||
+               it->meta.category == ZYDIS_CATEGORY_IOSTRINGOP;
     }
 }
 
-static unsigned short_form(const struct decoded *it, greg_t *registers, bool name, enum kind *kind)
+static bool is_for_systems(const ZydisDecodedInstruction *it)
 {
-    greg_t ones = it->short_operand ? 0xffff : 0xffffffff;
-
-    switch (*it->at) {
-    case 0xfa:
-    case 0xfb:
-        *kind = FLAGS;
-        return 1;
-    case 0xf4:
-        *kind = HALT;
-        return 1;
-    case 0xe4:
-    case 0xe5:
-    case 0xec:
-    case 0xed:
-        *kind = INPUT;
-        if (!name)
-            registers[REG_RAX] |= (*it->at & 1) != 0 ? ones : 0xff;
-        return *it->at < 0xe8 ? 2 : 1;
-    case 0xe6:
-    case 0xe7:
-    case 0xee:
-    case 0xef:
-        *kind = OUTPUT;
-        return *it->at < 0xe8 ? 2 : 1;
-    case 0x6c:
-    case 0x6d:
-    case 0x6e:
-    case 0x6f:
-        *kind = *it->at < 0x6e ? INPUT : OUTPUT;
-        if (!name && it->repeated)
-            registers[REG_RCX] = 0;
-        return 1;
-    case 0x0f:
-        return long_form(it, registers, name, kind);
-    default:
-        return 0;
-    }
+    return (it->attributes & ZYDIS_ATTRIB_IS_PRIVILEGED) != 0 || is_passed_over(it) ||
+           it->mnemonic == ZYDIS_MNEMONIC_LGDT || it->mnemonic == ZYDIS_MNEMONIC_LIDT ||
+           it->mnemonic == ZYDIS_MNEMONIC_RDPMC;
 }
 
-/* Passes over the instruction at which the process stopped, and returns its name, or NULL where it
- * is none of these. With `only_name` nothing is changed. */
-const char *pass_over(void *context, bool only_name)
+bool is_privileged(uint64_t at)
+{
+    struct instruction in;
+
+    return decode(at, &in) && is_for_systems(&in.it);
+}
+
+/* Gives the registers what an instruction that is passed over leaves in them. */
+static void give_values(const struct instruction *in, greg_t *registers)
+{
+    static const greg_t control[16] = {0x80010033, 0, 0, 0x100000, 0x668};
+    const ZydisDecodedOperand *to = &in->operands[0];
+    ZydisRegister from = in->operands[1].reg.value;
+
+    if (in->it.mnemonic == ZYDIS_MNEMONIC_IN)
+        registers[REG_RAX] = to->size == 32   ? 0xffffffff
+                             : to->size == 16 ? registers[REG_RAX] | 0xffff
+                                              : registers[REG_RAX] | 0xff;
+    else if (in->it.mnemonic == ZYDIS_MNEMONIC_RDMSR)
+        registers[REG_RAX] = registers[REG_RDX] = 0;
+    else if ((in->it.attributes & ZYDIS_ATTRIB_HAS_REP) != 0)
+        registers[REG_RCX] = 0;
+    else if (in->it.mnemonic == ZYDIS_MNEMONIC_MOV &&
+             ZydisRegisterGetClass(to->reg.value) == ZYDIS_REGCLASS_GPR64)
+        registers[numbered[ZydisRegisterGetId(to->reg.value)]] =
+            ZydisRegisterGetClass(from) == ZYDIS_REGCLASS_CONTROL
+                ? control[ZydisRegisterGetId(from)]
+                : 0;
+}
+
+/* Passes over the instruction at which an image stopped; false if it is none of these. */
+bool pass_over(void *context)
 {
     greg_t *registers = ((ucontext_t *)context)->uc_mcontext.gregs;
-    struct decoded it = decode(POINTER(registers[REG_RIP]));
-    enum kind kind = KINDS;
-    unsigned length = short_form(&it, registers, only_name, &kind);
+    struct instruction in;
 
-    if (length == 0)
-        return NULL;
-    if (!only_name) {
-        counts[kind]++;
-        registers[REG_RIP] = (greg_t)NUMBER(it.at + length);
-        if (kind == HALT)
-            idle(true);
-    }
-    return names[kind];
+    if (!decode((uint64_t)registers[REG_RIP], &in) || !is_passed_over(&in.it))
+        return false;
+    give_values(&in, registers);
+    counts[in.it.mnemonic]++;
+    registers[REG_RIP] += in.it.length;
+    if (in.it.mnemonic == ZYDIS_MNEMONIC_HLT)
+        idle(true);
+    return true;
 }
 
 void print_passed_over(FILE *file)
 {
     bool any = false;
 
-    for (unsigned i = 0; i < KINDS; i++)
+    for (unsigned i = 0; i < LENGTH(counts); i++)
         if (counts[i] > 0) {
-            fprintf(file, "%s %s %lu times", any ? "," : "efihost: passed over:", names[i],
-                    counts[i]);
+            fprintf(file, "%s %s%s %lu times", any ? "," : "efihost: passed over:",
+                    ZydisMnemonicGetString((ZydisMnemonic)i),
+                    i == ZYDIS_MNEMONIC_MOV ? " cr or dr" : "", counts[i]);
             any = true;
         }
     if (any)
         fputc('\n', file);
+}
+
+/* Says the instruction at an address of an image; nothing where there is none. */
+void say_instruction(struct words *to, uint64_t at)
+{
+    struct instruction in;
+    ZydisFormatter formatter;
+    char text[128];
+
+    if (!decode(at, &in))
+        return;
+    ZydisFormatterInit(&formatter, ZYDIS_FORMATTER_STYLE_INTEL);
+    ZydisFormatterSetProperty(&formatter, ZYDIS_FORMATTER_PROP_HEX_UPPERCASE, ZYAN_FALSE);
+    ZydisFormatterSetProperty(&formatter, ZYDIS_FORMATTER_PROP_ADDR_PADDING_ABSOLUTE,
+                              ZYDIS_PADDING_DISABLED);
+    if (ZYAN_SUCCESS(ZydisFormatterFormatInstruction(&formatter, &in.it, in.operands,
+                                                     in.it.operand_count_visible, text,
+                                                     sizeof text, at, NULL)))
+        say_text(to, text);
+}
+
+/* The place in memory that an instruction uses, or NULL. A segment's base is in none of the
+ * registers that are known here. */
+static const ZydisDecodedOperand *place_of(const struct instruction *in, const greg_t *registers,
+                                           uint64_t *address)
+{
+    ZydisRegisterContext values = {{0}};
+
+    for (unsigned i = 0; i < LENGTH(numbered); i++)
+        values.values[ZYDIS_REGISTER_RAX + i] = (ZyanU64)registers[numbered[i]];
+    for (unsigned i = 0; i < in->it.operand_count; i++) {
+        const ZydisDecodedOperand *it = &in->operands[i];
+
+        if (it->type == ZYDIS_OPERAND_TYPE_MEMORY && it->mem.type == ZYDIS_MEMOP_TYPE_MEM &&
+            it->mem.segment != ZYDIS_REGISTER_FS && it->mem.segment != ZYDIS_REGISTER_GS &&
+            ZYAN_SUCCESS(ZydisCalcAbsoluteAddressEx(
+                &in->it, it, (ZyanU64)registers[REG_RIP], &values, address)))
+            return it;
+    }
+    return NULL;
+}
+
+/* Of how many bytes the address of the place must be a multiple. */
+static unsigned alignment_of(const ZydisDecodedInstruction *it, const ZydisDecodedOperand *place)
+{
+    if (it->meta.category == ZYDIS_CATEGORY_XSAVE)
+        return 64;
+    if (it->meta.isa_set == ZYDIS_ISA_SET_FXSAVE || it->meta.isa_set == ZYDIS_ISA_SET_FXSAVE64)
+        return 16;
+    return place->size < 8 ? 1 : place->size / 8U;
+}
+
+/* Why an instruction that other code may use is refused: most often its address. */
+static void say_protection(struct words *to, const struct instruction *in, const greg_t *registers)
+{
+    uint64_t address = 0;
+    const ZydisDecodedOperand *place = place_of(in, registers, &address);
+    unsigned alignment = place == NULL ? 1 : alignment_of(&in->it, place);
+    bool canonical = address + (1ULL << 47) < 1ULL << 48;
+
+    if (canonical && (alignment < 16 || address % alignment == 0)) {
+        say_text(to, "a general protection fault");
+        return;
+    }
+    say_text(to, canonical ? "a misaligned access to " : "an access to ");
+    say_number(to, address);
+    say_text(to, canonical ? "" : ", which is no canonical address");
+}
+
+/* Says why the processor stopped an image, at the instruction or, if it is a trap, after it. */
+void say_refusal(struct words *to, int signal, const void *context)
+{
+    const greg_t *registers = ((const ucontext_t *)context)->uc_mcontext.gregs;
+    uint64_t at = (uint64_t)registers[REG_RIP];
+    bool is_readable = (memory_rights(at - 1) & PROT_READ) != 0;
+    struct instruction in;
+
+    if (signal == SIGTRAP)
+        say_text(to, is_readable && *(const uint8_t *)POINTER(at - 1) == INT3 ? "a breakpoint"
+                                                                              : "a debug trap");
+    else if (!decode(at, &in))
+        say_text(to, "bytes that are no instruction");
+    else if (is_for_systems(&in.it))
+        say_text(to, "an instruction that a process may not carry out");
+    else if (signal == SIGILL)
+        say_text(to, "an undefined instruction");
+    else if (signal == SIGFPE)
+        say_text(to, registers[REG_TRAPNO] == DIVISION ? "a division that has no result"
+                                                       : "a floating-point exception");
+    else if (registers[REG_TRAPNO] == OVERFLOW)
+        say_text(to, "an overflow trap");
+    else
+        say_protection(to, &in, registers);
 }

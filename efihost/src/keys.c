@@ -47,10 +47,16 @@ static bool has_come;
 static char waiting[16]; /* letters that are read and not used yet */
 static size_t waiting_count;
 
-void restore_terminal(void)
+/* A signal handler may do this. */
+void restore_keys(void)
 {
     if (terminal)
         tcsetattr(STDIN_FILENO, TCSADRAIN, &saved);
+}
+
+void restore_terminal(void)
+{
+    restore_keys();
     if (terminal_out()) {
         fputs("\033[0m\033[?25h", stdout);
         fflush(stdout);

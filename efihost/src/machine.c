@@ -9,7 +9,8 @@
 #define MAX_RANGES 65536U
 #define LOWEST 0x10000ULL /* what a process may have lies at or above this */
 #define MAX_PAGES 0x800000 /* of memory that the core is handed, of which it keeps a byte each */
-#define ALL (PROT_READ | PROT_WRITE | PROT_EXEC)
+#define DATA (PROT_READ | PROT_WRITE)
+#define ALL (DATA | PROT_EXEC)
 
 static struct machine_range *ranges;
 static size_t range_count;
@@ -37,13 +38,13 @@ static void keep(struct machine_range range)
  * process has something already, is reserved on the machine that is run, and a line says so. */
 static void add(uint32_t type, uint64_t start, uint64_t pages, uint64_t attributes)
 {
-    struct machine_range range = {start, pages, attributes, type, false, NULL};
+    struct machine_range range = {start, pages, attributes, type, false, DATA, NULL};
 
     if (has_bytes(&range) && start < LOWEST) {
         uint64_t below = (LOWEST - start) / PAGE;
         struct machine_range low = {start, below < pages ? below : pages, attributes,
                                     type == RAFKUDIN_CONVENTIONAL ? RAFKUDIN_RESERVED : type,
-                                    false, NULL};
+                                    false, DATA, NULL};
 
         keep(low);
         if (below >= pages)
@@ -55,7 +56,8 @@ static void add(uint32_t type, uint64_t start, uint64_t pages, uint64_t attribut
         void *at = POINTER(range.start);
         int flags = MAP_PRIVATE | MAP_ANONYMOUS | MAP_NORESERVE | MAP_FIXED_NOREPLACE;
 
-        range.mapped = mmap(at, range.pages * PAGE, ALL, flags, -1, 0) == at;
+        range.usual = host.checks && type == RAFKUDIN_CONVENTIONAL ? PROT_NONE : DATA;
+        range.mapped = mmap(at, range.pages * PAGE, range.usual, flags, -1, 0) == at;
         if (!range.mapped) {
             fprintf(stderr, "efihost: this process cannot have the memory at 0x%lx, %lu pages\n",
                     range.start, range.pages);
@@ -215,36 +217,6 @@ static void make_core(void)
     free(records);
 }
 
-/* Whether all these pages of a range are open. */
-static bool are_open(const struct machine_range *range, uint64_t first, uint64_t end)
-{
-    for (uint64_t page = first; page < end; page++)
-        if ((range->open[page / 8] >> page % 8 & 1) == 0)
-            return false;
-    return true;
-}
-
-static void note_page(const struct machine_range *range, uint64_t page, bool open)
-{
-    if (open)
-        range->open[page / 8] |= (uint8_t)(1U << page % 8);
-    else
-        range->open[page / 8] &= (uint8_t)~(1U << page % 8);
-}
-
-/* Notes of pages whether they are open, those of a whole byte together. */
-static void note_open(const struct machine_range *range, uint64_t first, uint64_t end, bool open)
-{
-    uint64_t bytes;
-
-    for (; first < end && first % 8 != 0; first++)
-        note_page(range, first, open);
-    bytes = (end - first) / 8;
-    memset(range->open + first / 8, open ? 0xff : 0, bytes);
-    for (first += 8 * bytes; first < end; first++)
-        note_page(range, first, open);
-}
-
 void make_machine(const char *file)
 {
     if (file != NULL) {
@@ -255,16 +227,9 @@ void make_machine(const char *file)
     }
     qsort(ranges, range_count, sizeof *ranges, by_start);
     make_core();
-    if (!host.checks)
-        return;
-    for (size_t i = 0; i < range_count; i++) {
-        if (!ranges[i].mapped)
-            continue;
-        ranges[i].open = must(calloc(ranges[i].pages / 8 + 1, 1));
-        note_open(&ranges[i], 0, ranges[i].pages, true);
-        if (ranges[i].type == RAFKUDIN_CONVENTIONAL)
-            shut_memory(ranges[i].start, ranges[i].pages * PAGE);
-    }
+    for (size_t i = 0; i < range_count; i++)
+        if (ranges[i].mapped)
+            ranges[i].changed = must(calloc(ranges[i].pages, 1));
 }
 
 /* The range of the machine with an address, or NULL. */
@@ -285,28 +250,53 @@ const struct machine_range *machine_range_at(uint64_t address)
     return NULL;
 }
 
-/* The conventional memory around an address; false where it is of another type or none. */
-bool conventional_range(uint64_t address, uint64_t *start, uint64_t *size)
+/* The entry of the memory map with an address; false where there is none. */
+static bool entry_at(uint64_t address, struct rafkudin_descriptor *entry)
 {
-    struct rafkudin_descriptor entry;
     size_t low = 0, high = RafkudinDescriptors(host.core);
 
     while (low < high) {
         size_t middle = low + (high - low) / 2;
 
-        if (RafkudinDescriptor(host.core, middle, &entry) != RAFKUDIN_SUCCESS)
+        if (RafkudinDescriptor(host.core, middle, entry) != RAFKUDIN_SUCCESS)
             return false;
-        if (address < entry.physical_start)
+        if (address < entry->physical_start)
             high = middle;
-        else if (address - entry.physical_start >= entry.number_of_pages * PAGE)
+        else if (address - entry->physical_start >= entry->number_of_pages * PAGE)
             low = middle + 1;
-        else {
-            *start = entry.physical_start;
-            *size = entry.number_of_pages * PAGE;
-            return entry.type == RAFKUDIN_CONVENTIONAL;
-        }
+        else
+            return true;
     }
     return false;
+}
+
+/* The conventional memory around an address; false where it is of another type or none. */
+bool conventional_range(uint64_t address, uint64_t *start, uint64_t *size)
+{
+    struct rafkudin_descriptor entry;
+
+    if (!entry_at(address, &entry))
+        return false;
+    *start = entry.physical_start;
+    *size = entry.number_of_pages * PAGE;
+    return entry.type == RAFKUDIN_CONVENTIONAL;
+}
+
+uint32_t memory_type(uint64_t address)
+{
+    struct rafkudin_descriptor entry;
+
+    return entry_at(address, &entry) ? entry.type : RAFKUDIN_RESERVED;
+}
+
+/* What a page of the machine may be used for. */
+int memory_rights(uint64_t address)
+{
+    const struct machine_range *range = machine_range_at(address);
+
+    if (range == NULL || range->changed == NULL)
+        return PROT_NONE;
+    return range->usual ^ range->changed[(address - range->start) / PAGE];
 }
 
 /* Linux limits how many pieces of memory with rights of their own a process has. Behind the last of
@@ -325,29 +315,47 @@ static void open_for_good(void)
         mprotect(POINTER(host.stack - RED_PAGES * PAGE), RED_PAGES * PAGE, PROT_NONE);
 }
 
-/* Sets what every page with one of these bytes may be used for; the system is not asked where it is
- * so already. */
-void protect_memory(uint64_t address, uint64_t size, int rights)
+/* Whether all these bytes are the same as the first, which is that one. */
+static bool are_all(const uint8_t *bytes, size_t count, uint8_t byte)
 {
-    uint64_t first = address & ~(PAGE - 1), end = (address + size + PAGE - 1) & ~(PAGE - 1);
-    const struct machine_range *range = machine_range_at(first);
+    return *bytes == byte && memcmp(bytes, bytes + 1, count - 1) == 0;
+}
 
-    if (end <= first || all_open)
+/* Sets what pages of a range may be used for; the system is not asked where it is so already. */
+static void protect_pages(const struct machine_range *range, uint64_t first, uint64_t end,
+                          int rights)
+{
+    uint8_t *changed = range->changed + (first - range->start) / PAGE;
+    uint8_t change = (uint8_t)(range->usual ^ rights);
+    size_t count = (end - first) / PAGE;
+
+    if (are_all(changed, count, change))
         return;
-    if (range != NULL && range->open != NULL && end <= range->start + range->pages * PAGE) {
-        uint64_t from = (first - range->start) / PAGE, to = (end - range->start) / PAGE;
-
-        if (rights == ALL && are_open(range, from, to))
-            return;
-        note_open(range, from, to, rights == ALL);
-    }
+    memset(changed, change, count);
     if (mprotect(POINTER(first), end - first, rights) != 0)
         open_for_good();
 }
 
+/* Sets what every page with one of these bytes may be used for. */
+void protect_memory(uint64_t address, uint64_t size, int rights)
+{
+    uint64_t first = address & ~(PAGE - 1), end = (address + size + PAGE - 1) & ~(PAGE - 1);
+
+    while (first < end && !all_open) {
+        const struct machine_range *range = machine_range_at(first);
+        uint64_t range_end = range == NULL ? end : range->start + range->pages * PAGE;
+        uint64_t piece_end = range_end < end ? range_end : end;
+
+        if (range != NULL && range->changed != NULL)
+            protect_pages(range, first, piece_end, rights);
+        first = piece_end;
+    }
+}
+
+/* Makes memory what data may lie in. */
 void open_memory(uint64_t address, uint64_t size)
 {
-    protect_memory(address, size, ALL);
+    protect_memory(address, size, DATA);
 }
 
 void shut_memory(uint64_t address, uint64_t size)
@@ -355,10 +363,12 @@ void shut_memory(uint64_t address, uint64_t size)
     protect_memory(address, size, PROT_NONE);
 }
 
-/* Once boot services have ended, all memory is the application's. */
+/* Once boot services have ended, all memory is the application's, code and data. A run that uses up
+ * its stack still ends below it. */
 void open_all_memory(void)
 {
     for (size_t i = 0; i < range_count; i++)
         if (ranges[i].mapped)
-            open_memory(ranges[i].start, ranges[i].pages * PAGE);
+            protect_memory(ranges[i].start, ranges[i].pages * PAGE, ALL);
+    shut_memory(host.stack - RED_PAGES * PAGE, RED_PAGES * PAGE);
 }

@@ -11,7 +11,7 @@
 #include <ucontext.h>
 #include <unistd.h>
 
-#define STACK_PAGES 128U
+#define STACK_PAGES (128U + SERVICE_STACK / PAGE)
 
 struct host host;
 static ucontext_t home, machine_context;

@@ -56,8 +56,12 @@ EFI_STATUS host_free_pages(uint64_t at, uint64_t pages)
     struct origin made;
     EFI_STATUS status;
 
-    if (!host.checks)
-        return core_free_pages(at, pages);
+    if (!host.checks) {
+        status = core_free_pages(at, pages);
+        if (status == EFI_SUCCESS)
+            open_memory(at, pages * PAGE);
+        return status;
+    }
     run = ledger_run_with(at);
     made = run == NULL ? origin_now() : run->origin;
     if (run != NULL && pages != 0 && at % PAGE == 0 && end <= run->at + run->pages * PAGE) {
@@ -154,8 +158,9 @@ void *machine_block(uint64_t size)
     return memset(block, 0, size);
 }
 
-/* Reads, and writes with what it has, a byte of each page of a buffer before the system of the host
- * is handed it: an access to what is not the caller's is seen so, which the system only refuses. */
+/* Reads, and writes with what it has, a byte of each page of a buffer before the system or the C
+ * library is handed it. An access to what is not the caller's is seen so, which the system only
+ * refuses; and no function of the C library is under way then, so that the run can end in order. */
 void touch(const void *bytes, size_t count, bool write)
 {
     volatile uint8_t *at = POINTER(NUMBER(bytes));

@@ -37,6 +37,8 @@ static const char usage[] =
     "  --check           reports misuse of memory and services, and what is left at the end\n"
     "  --guard           the same, and stops at the first access to memory that is not its own, at\n"
     "                    that instruction\n"
+    "  --require-nx      execution of data is found in every image, not only in those with NX_COMPAT;\n"
+    "                    with --check or --guard\n"
     "  --json FILE       the report for programs\n"
     "  --calls FILE      the services that were called, a line each\n"
     "  --trace FILE      the calls of the core for `bootcore run --trace FILE --machine\n"
@@ -91,6 +93,7 @@ static bool read_flag(const char *word, struct options *options)
         {"--strict", &options->strict},   {"--quiet", &options->quiet},
         {"--plain", &options->plain},     {"--certify", &options->certify},
         {"--rights", &options->rights},   {"--snapshot", &options->snapshot},
+        {"--require-nx", &options->require_nx},
     };
 
     for (size_t i = 0; i < LENGTH(flags); i++)
@@ -177,6 +180,8 @@ void read_options(int count, char **words, struct options *options)
         i += read_flag(words[i], options) ? 1 : read_valued(words + i, options);
     if (i < count && strcmp(words[i], "--") == 0)
         i++;
+    if (options->require_nx && !options->check && !options->guard)
+        refuse("--require-nx needs --check or --guard");
     if (i == count) {
         fputs(usage, stderr);
         exit(ENDED_NEVER_RAN);

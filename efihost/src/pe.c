@@ -12,6 +12,7 @@
 #define DEBUG_ENTRY 28U
 #define CODEVIEW 2U
 #define STRIPPED 1U
+#define NX_COMPAT 0x100U
 #define MAX_IMAGE_SIZE (1ULL << 30)
 
 struct headers {
@@ -159,6 +160,7 @@ static bool copy_sections(const struct headers *from, struct image *image)
 {
     uint8_t *to = POINTER(image->base);
 
+    image->sections = must(calloc(from->section_count + 1U, sizeof *image->sections));
     memcpy(to, from->file, from->header_size);
     for (unsigned i = 0; i < from->section_count; i++) {
         const uint8_t *header = from->sections + 40 * i;
@@ -173,10 +175,9 @@ static bool copy_sections(const struct headers *from, struct image *image)
         if (size != 0 && (start > from->length || size > from->length - start))
             return say("it is cut off in a section");
         memcpy(to + at, from->file + start, size);
-        if (image->section_count < LENGTH(image->sections))
-            image->sections[image->section_count++] =
-                (struct section){at, virtual_size == 0 ? size : virtual_size,
-                                 (flags & 0x80000000U) != 0, (flags & 0x20000000U) != 0};
+        image->sections[image->section_count++] =
+            (struct section){at, virtual_size == 0 ? size : virtual_size,
+                             (flags & 0x80000000U) != 0, (flags & 0x20000000U) != 0};
     }
     return true;
 }
@@ -303,21 +304,80 @@ static void find_debug_file(const struct headers *from, struct image *image)
         memcpy(image->debug_file, text + front, length - front);
 }
 
-/* Each section's pages may be used for what its flags say, where each begins a page of its own. */
-void apply_rights(struct image *image)
+/* How many sections a page has a byte of, how many of them are for writing and how many for
+ * execution; first as what each page has more than the one before. */
+struct cover {
+    int32_t all, writable, executable;
+};
+
+static struct cover *cover_pages(const struct image *image, size_t pages)
 {
-    for (size_t i = 0; i < image->section_count; i++)
-        if (image->sections[i].at % PAGE != 0)
-            return;
+    struct cover *cover = must(calloc(pages + 1, sizeof *cover));
+
     for (size_t i = 0; i < image->section_count; i++) {
         const struct section *section = &image->sections[i];
-        int rights = PROT_READ | (section->writable ? PROT_WRITE : 0) |
-                     (section->executable ? PROT_EXEC : 0);
-        uint64_t size = (section->size + PAGE - 1) / PAGE * PAGE;
+        size_t first = section->at / PAGE, end = (section->at + section->size + PAGE - 1) / PAGE;
 
-        if (size != 0)
-            protect_memory(image->base + section->at, size, rights);
+        if (section->size == 0)
+            continue;
+        cover[first].all++;
+        cover[end].all--;
+        cover[first].writable += section->writable;
+        cover[end].writable -= section->writable;
+        cover[first].executable += section->executable;
+        cover[end].executable -= section->executable;
     }
+    for (size_t i = 1; i < pages; i++) {
+        cover[i].all += cover[i - 1].all;
+        cover[i].writable += cover[i - 1].writable;
+        cover[i].executable += cover[i - 1].executable;
+    }
+    return cover;
+}
+
+static int rights_of(const struct cover *page)
+{
+    if (page->all == 0)
+        return PROT_READ | PROT_WRITE;
+    return PROT_READ | (page->writable > 0 ? PROT_WRITE : 0) |
+           (page->executable > 0 ? PROT_EXEC : 0);
+}
+
+/* Whether sections of different rights share a page. */
+static bool is_mixed(const struct cover *page)
+{
+    return (page->writable != 0 && page->writable != page->all) ||
+           (page->executable != 0 && page->executable != page->all);
+}
+
+/* Each page may be used for what the flags of the sections on it say, one for all of them. An image
+ * without sections may use all of its memory in every way. */
+void apply_rights(struct image *image)
+{
+    size_t pages = (image->size + PAGE - 1) / PAGE, mixed = 0;
+    struct cover *cover;
+
+    if (image->section_count == 0) {
+        protect_memory(image->base, image->size, PROT_READ | PROT_WRITE | PROT_EXEC);
+        return;
+    }
+    cover = cover_pages(image, pages);
+    for (size_t first = 0, end; first < pages; first = end) {
+        int rights = rights_of(&cover[first]);
+
+        for (end = first; end < pages && rights_of(&cover[end]) == rights; end++)
+            mixed += is_mixed(&cover[end]);
+        protect_memory(image->base + first * PAGE, (end - first) * PAGE, rights);
+    }
+    if (host.checks && mixed > 0)
+        fprintf(stderr,
+                "efihost: %s: sections of different rights share %zu of its %zu pages, on which "
+                "these are not checked\n",
+                image->name, mixed, pages);
+    free(cover);
+    free(image->sections);
+    image->sections = NULL;
+    image->section_count = 0;
 }
 
 /* Puts an image into the machine's memory; on an error nothing is kept. */
@@ -334,11 +394,13 @@ EFI_STATUS load_pe(const uint8_t *file, uint64_t length, struct image *image)
                  image->subsystem);
         return EFI_UNSUPPORTED;
     }
+    image->nx_compatible = (get16(headers.optional + 70) & NX_COMPAT) != 0;
     status = place(&headers, image);
     if (status != EFI_SUCCESS)
         return status;
     memset(POINTER(image->placed), 0, image->pages * PAGE);
     if (!copy_sections(&headers, image) || !relocate(&headers, image)) {
+        free(image->sections);
         host_free_pages(image->placed, image->pages);
         return EFI_LOAD_ERROR;
     }

@@ -67,13 +67,12 @@ static void print_report(enum ending ending, const char *why)
 /* Ends the run: its status is that of findings where there are any and no fault came. */
 void finish(enum ending ending, const char *format, ...)
 {
-    static bool ending_now;
     char why[1024];
     va_list words;
 
-    if (ending_now)
+    if (host.ending)
         _exit(ending);
-    ending_now = true;
+    host.ending = true;
     va_start(words, format);
     vsnprintf(why, sizeof why, format, words);
     va_end(words);

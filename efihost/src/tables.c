@@ -89,8 +89,11 @@ static void EFIAPI CopyMem(void *to, const void *from, UINTN count)
 {
     struct call call = {.frame = FRAME};
 
-    if (enter(&call, "CopyMem", HERE, (const uint64_t[4]){NUMBER(to), NUMBER(from), count}))
+    if (enter(&call, "CopyMem", HERE, (const uint64_t[4]){NUMBER(to), NUMBER(from), count})) {
+        touch(from, count, false);
+        touch(to, count, true);
         memmove(to, from, count);
+    }
     leave(&call, EFI_SUCCESS);
 }
 
@@ -98,8 +101,10 @@ static void EFIAPI SetMem(void *to, UINTN count, uint8_t value)
 {
     struct call call = {.frame = FRAME};
 
-    if (enter(&call, "SetMem", HERE, (const uint64_t[4]){NUMBER(to), count, value}))
+    if (enter(&call, "SetMem", HERE, (const uint64_t[4]){NUMBER(to), count, value})) {
+        touch(to, count, true);
         memset(to, value, count);
+    }
     leave(&call, EFI_SUCCESS);
 }
 

@@ -194,7 +194,11 @@ const char *guid_text(const void *guid)
 
 bool guid_equal(const void *one, const void *other)
 {
-    return memcmp(one, other, 16) == 0;
+    uint64_t first[2], second[2];
+
+    memcpy(first, one, sizeof first);
+    memcpy(second, other, sizeof second);
+    return first[0] == second[0] && first[1] == second[1];
 }
 
 uint32_t crc32_of(const void *bytes, size_t count)

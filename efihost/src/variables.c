@@ -136,6 +136,7 @@ static EFI_STATUS EFIAPI GetVariable(const CHAR16 *name, const EFI_GUID *guid,
     if (value == NULL && it->size != 0)
         ANSWER(EFI_INVALID_PARAMETER);
     *size = it->size;
+    touch(value, it->size, true);
     if (it->size != 0)
         memcpy(value, it->value, it->size);
     ANSWER(EFI_SUCCESS);
@@ -202,6 +203,7 @@ static EFI_STATUS EFIAPI SetVariable(const CHAR16 *name, const EFI_GUID *guid, u
         (attributes & (EFI_VARIABLE_BOOTSERVICE_ACCESS | EFI_VARIABLE_RUNTIME_ACCESS)) ==
             EFI_VARIABLE_RUNTIME_ACCESS)
         ANSWER(EFI_INVALID_PARAMETER);
+    touch(value, size < MAX_VALUE_SIZE ? size : MAX_VALUE_SIZE, false);
     status = set_variable(name, guid, attributes, size, value);
     if (status == EFI_SUCCESS)
         write_store();
@@ -230,6 +232,7 @@ static EFI_STATUS EFIAPI GetNextVariableName(UINTN *size, CHAR16 *name, EFI_GUID
         ANSWER(EFI_BUFFER_TOO_SMALL);
     }
     *size = needed;
+    touch(name, needed, true);
     memcpy(name, it->name, needed);
     *guid = it->guid;
     ANSWER(EFI_SUCCESS);
