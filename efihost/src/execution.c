@@ -1,7 +1,7 @@
 /* Code that runs in memory of the machine outside of images. Pages are mapped without execution:
- * the first fetch from one decides by the type of its memory. In a type for code it runs. In another
- * it is a finding if all images that have to do with it say, by NX_COMPAT, that they have no
- * such code. Else it runs, as on firmware that allows it, and a line says so once for each image.
+ * the first fetch from one decides by the type of its memory. In a type for code it runs. In one
+ * for data it is a finding if all images that have to do with it say, by NX_COMPAT, that they have
+ * no such code. Else it runs, as on firmware that allows it, and a line says so once for an image.
  *
  * All this is done in the handler of a fault. It interrupts an image, so no call of the core is
  * under way, and the core may be asked. */
@@ -78,7 +78,8 @@ static void note_once(struct image *image, uint64_t address, uint32_t type)
     bool *noted = image == NULL ? &other : &image->ran_data;
 
     if (!*noted && !host.options.quiet)
-        fprintf(stderr, "efihost: %s%scode runs in memory of type %s, which is for data, at 0x%lx\n",
+        fprintf(stderr,
+                "efihost: %s%scode runs in memory of type %s, which is for data, at 0x%lx\n",
                 image == NULL ? "" : image->name, image == NULL ? "" : ": ", type_name(type),
                 address);
     *noted = true;

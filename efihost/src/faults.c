@@ -119,8 +119,8 @@ static enum heeded heed_image(const struct fault *it)
     return host.checks ? IS_FOUND : GOES_ON;
 }
 
-/* An access to memory of the machine: found, and then allowed. It is an image's, or that of a service
- * or of a function that copies for one. */
+/* An access to memory of the machine: found, and then allowed. It is an image's, or that of a
+ * service or of a function that copies for one. */
 static enum heeded heed_access(const struct fault *it)
 {
     if (!is_mapped(it->address) || is_below_stack(it))
