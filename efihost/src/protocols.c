@@ -249,11 +249,22 @@ static EFI_STATUS EFIAPI LocateHandle(uint32_t search, const EFI_GUID *guid, voi
                                       UINTN *size, EFI_HANDLE *handles)
 {
     SERVICE("LocateHandle", search, NUMBER(guid), NUMBER(key), size == NULL ? 0 : *size);
+    static uint64_t list[RAFKUDIN_MAX_HANDLES];
+    uint64_t bytes;
+    EFI_STATUS status;
 
     if (size == NULL || (handles == NULL && *size != 0) ||
         (guid == NULL && search == RAFKUDIN_BY_PROTOCOL))
         ANSWER(EFI_INVALID_PARAMETER);
-    ANSWER(core_locate(search, guid, NUMBER(key), size, (uint64_t *)handles));
+    bytes = *size < sizeof list ? *size : sizeof list;
+    status = core_locate(search, guid, NUMBER(key), &bytes, list);
+    if (status == EFI_SUCCESS) {
+        touch(handles, bytes, true);
+        memcpy(handles, list, bytes);
+    }
+    if (status == EFI_SUCCESS || status == EFI_BUFFER_TOO_SMALL)
+        *size = bytes;
+    ANSWER(status);
 }
 
 /* On a refusal the count is 0 and the buffer null, as in the reference implementation. */
