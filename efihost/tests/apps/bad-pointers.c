@@ -97,9 +97,7 @@ static EFI_STATUS application(void)
     UINTN number = number_of(words());
 
     more = sizeof room;
-    if (number % 2 == 0) /* there is a variable, or there is none */
-        MUST(runtime->SetVariable(name, &guid, 6, 8, room));
-    number /= 2;
+    MUST(runtime->SetVariable(name, &guid, 6, 8, room));
     for (UINTN i = 0; i < sizeof rows / sizeof *rows; i++)
         for (unsigned argument = 0; argument < 6; argument++)
             if ((rows[i].pointers & P(argument)) != 0 && number-- == 0)
