@@ -423,5 +423,6 @@ void peek_debug_file(const uint8_t *file, uint64_t length, struct image *image)
     image->base = NUMBER(bytes);
     if (copy_sections(&headers, image))
         find_debug_file(&headers, image);
+    free(image->sections);
     free(bytes);
 }
