@@ -28,6 +28,14 @@ static const char *type_name(uint32_t type)
     return type < LENGTH(names) ? names[type] : "Unaccepted";
 }
 
+/* The type of memory at an address; with a check a block of the pool may lie outside the machine. */
+static uint32_t type_at(uint64_t address)
+{
+    const struct block *block = host.checks ? ledger_block_around(address) : NULL;
+
+    return block != NULL ? block->type : memory_type(address);
+}
+
 /* Who jumped to where an image now is: the return address of a call, or 0 if that is not known. */
 uint64_t caller_of(uint64_t stack)
 {
@@ -40,7 +48,7 @@ uint64_t caller_of(uint64_t stack)
     image = image_at(word);
     if (image != NULL)
         return behind_call(image, word) ? word : 0;
-    return is_for_code(memory_type(word)) ? word : 0;
+    return is_for_code(type_at(word)) ? word : 0;
 }
 
 /* A block or run of pages that holds what runs. */
@@ -88,7 +96,7 @@ static void note_once(struct image *image, uint64_t address, uint32_t type)
 /* Lets code run at an address; whether that is a finding. */
 bool let_run(uint64_t address, uint64_t caller)
 {
-    uint32_t type = memory_type(address);
+    uint32_t type = type_at(address);
     struct holder in = holder_of(address);
     struct image *jumped = image_at(caller), *made = in.origin == NULL ? NULL : in.origin->image;
     struct origin origin = jumped == NULL && made != NULL ? *in.origin : origin_at(caller);
