@@ -28,7 +28,7 @@ static const char *type_name(uint32_t type)
     return type < LENGTH(names) ? names[type] : "Unaccepted";
 }
 
-/* The type of memory at an address; with a check a block of the pool may lie outside the machine. */
+/* The type of memory at an address; with a check the pool may lie outside the machine. */
 static uint32_t type_at(uint64_t address)
 {
     const struct block *block = host.checks ? ledger_block_around(address) : NULL;
