@@ -202,18 +202,6 @@ void open_memory(uint64_t address, uint64_t size);
 void shut_memory(uint64_t address, uint64_t size);
 void open_all_memory(void);
 
-/* ---- json.c ---- */
-struct json {
-    const char *at, *end;
-};
-struct json json_text(const char *text, size_t length);
-bool json_enter(struct json *json, char bracket);
-bool json_next(struct json *json, char bracket, char *key, size_t room);
-bool json_number(struct json *json, uint64_t *number);
-bool json_string(struct json *json, char *text, size_t room);
-bool json_skip(struct json *json);
-bool json_ends(struct json *json);
-
 /* ---- ledger.c: what is live, and who made it ---- */
 struct block {
     uint64_t at, size, core_at, core_size;

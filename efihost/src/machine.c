@@ -1,12 +1,13 @@
 /* The machine: its memory map, of a machine file or a default of 256 MB, and that memory at its own
  * addresses in this process. */
 #include "host.h"
+#include "machine_file.h"
 
+#include <errno.h>
 #include <stdlib.h>
 #include <string.h>
 #include <sys/mman.h>
 
-#define MAX_RANGES 65536U
 #define LOWEST 0x10000ULL /* what a process may have lies at or above this */
 #define MAX_PAGES 0x800000 /* of memory that the core is handed, of which it keeps a byte each */
 #define DATA (PROT_READ | PROT_WRITE)
@@ -28,8 +29,6 @@ static bool has_bytes(const struct machine_range *range)
 
 static void keep(struct machine_range range)
 {
-    if (range_count == MAX_RANGES)
-        refuse("machine: too many descriptors");
     ranges = must(realloc(ranges, (range_count + 1) * sizeof *ranges));
     ranges[range_count++] = range;
 }
@@ -68,77 +67,27 @@ static void add(uint32_t type, uint64_t start, uint64_t pages, uint64_t attribut
     keep(range);
 }
 
-/* A text that is a hexadecimal number. */
-static bool hexadecimal(struct json *json, uint64_t *number)
-{
-    char text[32], *end;
-
-    if (!json_string(json, text, sizeof text) || strncmp(text, "0x", 2) != 0)
-        return false;
-    *number = strtoull(text, &end, 16);
-    return *end == 0 && end != text + 2;
-}
-
-static bool read_descriptor(struct json *json)
-{
-    uint64_t type = 0, start = 0, pages = 0, attributes = 0;
-    unsigned fields = 0;
-    char key[16];
-
-    if (!json_enter(json, '{'))
-        return false;
-    while (json_next(json, '}', key, sizeof key)) {
-        bool good;
-
-        if (strcmp(key, "type") == 0)
-            fields |= 1U, good = json_number(json, &type);
-        else if (strcmp(key, "start") == 0)
-            fields |= 2U, good = hexadecimal(json, &start);
-        else if (strcmp(key, "pages") == 0)
-            fields |= 4U, good = json_number(json, &pages);
-        else if (strcmp(key, "attributes") == 0)
-            fields |= 8U, good = hexadecimal(json, &attributes);
-        else
-            good = json_skip(json);
-        if (!good)
-            return false;
-    }
-    if (json->at == NULL || fields != 15 || type > UINT32_MAX || pages == 0 || start % PAGE != 0 ||
-        pages > (1ULL << 52) - start / PAGE)
-        return false;
-    add((uint32_t)type, start, pages, attributes);
-    return true;
-}
-
+/* What a machine file says of drivers is looked at, and else ignored: drivers are code here. */
 static void read_machine(const char *name)
 {
-    size_t length, count = 0;
-    char *text = (char *)read_file(name, &length), key[16];
-    struct json json;
-    bool memory = false;
+    size_t length;
+    char *text = (char *)read_file(name, &length);
+    const char *fault;
+    struct machine machine;
 
     if (text == NULL)
-        refuse("cannot read machine %s", name);
-    json = json_text(text, length);
-    if (!json_enter(&json, '{'))
-        refuse("machine: not JSON");
-    while (json_next(&json, '}', key, sizeof key)) {
-        if (strcmp(key, "memory") == 0) {
-            memory = json_enter(&json, '[');
-            for (; memory && json_next(&json, ']', NULL, 0); count++)
-                if (!read_descriptor(&json))
-                    refuse("machine: descriptor %zu", count);
-        } else if (strcmp(key, "granule") == 0) {
-            if (!json_number(&json, &granule) || (granule != 1 && granule != 16))
-                refuse("machine: granule");
-        } else if (!json_skip(&json)) {
-            refuse("machine: not JSON");
-        }
+        refuse("cannot read machine %s: %s", name, strerror(errno));
+    fault = machine_file_read(text, length, &machine);
+    if (fault != NULL)
+        refuse("%s", fault);
+    granule = machine.granule;
+    for (size_t at = 0; at < machine.size; at += RAFKUDIN_DESCRIPTOR_SIZE) {
+        EFI_MEMORY_DESCRIPTOR entry;
+
+        memcpy(&entry, machine.records + at, sizeof entry);
+        add(entry.Type, entry.PhysicalStart, entry.NumberOfPages, entry.Attribute);
     }
-    if (!json_ends(&json))
-        refuse("machine: not JSON");
-    if (!memory)
-        refuse("machine: no memory list");
+    machine_free(&machine);
     free(text);
 }
 

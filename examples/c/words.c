@@ -2,7 +2,7 @@
 #include "words.h"
 
 #include "fault.h"
-#include "guids.h"
+#include "numbers.h"
 
 #include <string.h>
 
@@ -49,27 +49,6 @@ bool word_is(struct word word, const char *text)
     return word.length == strlen(text) && memcmp(word.bytes, text, word.length) == 0;
 }
 
-/* The number that digits write, where it is below 2^64. */
-static bool read_digits(const char *bytes, size_t length, unsigned base, uint64_t *number)
-{
-    *number = 0;
-    for (; length != 0; length--, bytes++) {
-        unsigned digit = digit_of(*bytes);
-
-        if (digit >= base || *number > (UINT64_MAX - digit) / base)
-            return false;
-        *number = *number * base + digit;
-    }
-    return true;
-}
-
-bool hexadecimal_number(const char *bytes, size_t length, uint64_t *number)
-{
-    if (length < 3 || length > 18 || bytes[0] != '0' || bytes[1] != 'x')
-        return false;
-    return read_digits(bytes + 2, length - 2, 16, number);
-}
-
 bool word_number(struct word word, uint64_t most, uint64_t *number)
 {
     bool is_number;
@@ -77,6 +56,6 @@ bool word_number(struct word word, uint64_t most, uint64_t *number)
     if (word.length >= 2 && word.bytes[0] == '0' && word.bytes[1] == 'x')
         is_number = hexadecimal_number(word.bytes, word.length, number);
     else
-        is_number = word.length <= 20 && read_digits(word.bytes, word.length, 10, number);
+        is_number = word.length <= 20 && number_of_digits(word.bytes, word.length, 10, number);
     return is_number && *number <= most;
 }

@@ -37,7 +37,4 @@ bool word_is(struct word word, const char *text);
 /* The number of a word, `0x` and 1 to 16 hexadecimal digits or 1 to 20 decimal digits, where it is
  * `most` or less. */
 bool word_number(struct word word, uint64_t most, uint64_t *number);
-
-/* The number of `0x` and 1 to 16 hexadecimal digits. */
-bool hexadecimal_number(const char *bytes, size_t length, uint64_t *number);
 #endif
