@@ -432,6 +432,7 @@ void fill_small_services(EFI_BOOT_SERVICES *boot);
 void fill_runtime_services(EFI_RUNTIME_SERVICES *runtime);
 void fill_variable_services(EFI_RUNTIME_SERVICES *runtime);
 void open_variables(const char *file);
+void load_variables(void);
 void seal_table(EFI_TABLE_HEADER *header);
 
 /* ---- disks.c, folder.c, folder_files.c, graphics.c, picture.c, serial.c ---- */

@@ -206,6 +206,7 @@ int main(int count, char **words)
         open_calls_log(host.options.calls);
     open_keys(host.options.input);
     open_variables(host.options.variables);
+    load_variables();
     make_machine(host.options.machine);
     make_tables();
     make_path_room();

@@ -61,6 +61,9 @@ typedef struct {
     uint8_t Daylight, Pad2;
 } EFI_TIME;
 
+#define EFI_TIME_ADJUST_DAYLIGHT 1U
+#define EFI_TIME_IN_DAYLIGHT 2U
+
 typedef struct {
     uint32_t Resolution, Accuracy;
     BOOLEAN SetsToZero;
@@ -149,6 +152,8 @@ typedef struct {
 #define EFI_VARIABLE_NON_VOLATILE 1U
 #define EFI_VARIABLE_BOOTSERVICE_ACCESS 2U
 #define EFI_VARIABLE_RUNTIME_ACCESS 4U
+#define EFI_VARIABLE_HARDWARE_ERROR_RECORD 8U
+#define EFI_VARIABLE_AUTHENTICATED_WRITE_ACCESS 0x10U
 #define EFI_VARIABLE_APPEND_WRITE 0x40U
 
 /* ---- Boot services ---- */

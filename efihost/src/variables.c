@@ -1,119 +1,33 @@
-/* Variables; those that are non-volatile are in the file of --variables, a line for each: GUID,
- * attributes, the name's letters and the value's bytes, both in hexadecimal. */
-#include "host.h"
+/* Variables; those that are non-volatile are in the file of --variables. */
+#include "variables.h"
 
-#include <errno.h>
 #include <stdlib.h>
 #include <string.h>
-#include <sys/file.h>
-#include <unistd.h>
 
-#define MAX_NAME_LENGTH 512U
-#define MAX_VALUE_SIZE 65536U
-#define ROOM 1048576U
+#define ACCESS (EFI_VARIABLE_BOOTSERVICE_ACCESS | EFI_VARIABLE_RUNTIME_ACCESS)
+#define OF_RUNTIME (EFI_VARIABLE_RUNTIME_ACCESS | EFI_VARIABLE_NON_VOLATILE)
+#define OF_ERRORS                                                                                 \
+    (EFI_VARIABLE_NON_VOLATILE | ACCESS | EFI_VARIABLE_HARDWARE_ERROR_RECORD)
+#define KNOWN (OF_ERRORS | EFI_VARIABLE_APPEND_WRITE)
 
-struct variable {
-    CHAR16 name[MAX_NAME_LENGTH];
-    EFI_GUID guid;
-    uint32_t attributes;
-    size_t size;
-    uint8_t *value;
-    struct variable *next;
-};
 static struct variable *first;
-static FILE *store;
-
-static struct variable **link_of(const CHAR16 *name, const EFI_GUID *guid)
-{
-    struct variable **link = &first;
-
-    while (*link != NULL &&
-           !(wide_equal((*link)->name, name) && guid_equal(&(*link)->guid, guid)))
-        link = &(*link)->next;
-    return link;
-}
-
-static void write_hex(const void *bytes, size_t count)
-{
-    for (size_t i = 0; i < count; i++)
-        fprintf(store, "%02x", ((const uint8_t *)bytes)[i]);
-    if (count == 0)
-        fputc('-', store);
-}
-
-static void write_store(void)
-{
-    if (store == NULL || ftruncate(fileno(store), 0) != 0)
-        return;
-    rewind(store);
-    for (struct variable *it = first; it != NULL; it = it->next) {
-        if ((it->attributes & EFI_VARIABLE_NON_VOLATILE) == 0)
-            continue;
-        write_hex(&it->guid, sizeof it->guid);
-        fprintf(store, " %u ", it->attributes);
-        write_hex(it->name, 2 * wide_length(it->name));
-        fputc(' ', store);
-        write_hex(it->value, it->size);
-        fputc('\n', store);
-    }
-    fflush(store);
-}
-
-/* Reads bytes in hexadecimal; their number, or -1 where it is none or too long. */
-static long read_hex(const char *text, uint8_t *bytes, size_t room)
-{
-    size_t length = strlen(text);
-
-    if (strcmp(text, "-") == 0)
-        return 0;
-    if (length % 2 != 0 || length / 2 > room)
-        return -1;
-    for (size_t i = 0; i < length / 2; i++) {
-        unsigned byte;
-
-        if (sscanf(text + 2 * i, "%2x", &byte) != 1)
-            return -1;
-        bytes[i] = (uint8_t)byte;
-    }
-    return (long)(length / 2);
-}
-
-static bool read_line(char *line)
-{
-    struct variable *it = must(calloc(1, sizeof *it));
-    char *guid = strtok(line, " \n"), *attributes = strtok(NULL, " \n");
-    char *name = strtok(NULL, " \n"), *value = strtok(NULL, " \n");
-    long size;
-
-    it->value = must(malloc(MAX_VALUE_SIZE));
-    if (value == NULL || read_hex(guid, (uint8_t *)&it->guid, sizeof it->guid) != 16 ||
-        read_hex(name, (uint8_t *)it->name, sizeof it->name - 2) < 2)
-        return false;
-    size = read_hex(value, it->value, MAX_VALUE_SIZE);
-    it->attributes = (uint32_t)strtoul(attributes, NULL, 10);
-    it->size = (size_t)(size < 0 ? 0 : size);
-    *link_of(it->name, &it->guid) = it;
-    return size >= 0;
-}
 
 void open_variables(const char *file)
 {
-    size_t number = 0, room = 0;
-    char *line = NULL;
+    if (file != NULL)
+        open_store(file);
+}
 
-    if (file == NULL)
-        return;
-    store = fopen(file, "r+");
-    if (store == NULL && errno == ENOENT)
-        store = fopen(file, "w+");
-    if (store == NULL)
-        refuse("cannot open %s: %s", file, strerror(errno));
-    if (flock(fileno(store), LOCK_EX | LOCK_NB) != 0 && errno == EWOULDBLOCK)
-        refuse("another efihost has the variables of %s", file);
-    while (getline(&line, &room, store) > 0)
-        if (number++, !read_line(line))
-            refuse("variables: line %zu", number);
-    free(line);
+void load_variables(void)
+{
+    if (host.options.variables != NULL)
+        load_store(&first);
+}
+
+/* Once boot services have ended, variables without runtime access are not there. */
+static bool is_seen(const struct variable *it)
+{
+    return it != NULL && (!host.exited || (it->attributes & EFI_VARIABLE_RUNTIME_ACCESS) != 0);
 }
 
 static EFI_STATUS EFIAPI GetVariable(const CHAR16 *name, const EFI_GUID *guid,
@@ -124,8 +38,8 @@ static EFI_STATUS EFIAPI GetVariable(const CHAR16 *name, const EFI_GUID *guid,
 
     if (name == NULL || guid == NULL || size == NULL)
         ANSWER(EFI_INVALID_PARAMETER);
-    it = *link_of(name, guid);
-    if (it == NULL || (host.exited && (it->attributes & EFI_VARIABLE_RUNTIME_ACCESS) == 0))
+    it = *variable_link(&first, name, guid);
+    if (!is_seen(it))
         ANSWER(EFI_NOT_FOUND);
     if (attributes != NULL)
         *attributes = it->attributes;
@@ -142,54 +56,106 @@ static EFI_STATUS EFIAPI GetVariable(const CHAR16 *name, const EFI_GUID *guid,
     ANSWER(EFI_SUCCESS);
 }
 
-static void remove_variable(struct variable **link)
+/* Whether SetVariable takes these attributes. There is nothing that signatures could be checked
+ * with, so variables that need one are refused. */
+static EFI_STATUS attributes_status(uint32_t attributes)
 {
-    struct variable *gone = *link;
-
-    *link = gone->next;
-    free(gone->value);
-    free(gone);
+    if ((attributes & EFI_VARIABLE_AUTHENTICATED_WRITE_ACCESS) != 0)
+        return EFI_UNSUPPORTED;
+    if ((attributes & ~KNOWN) != 0 || (attributes & ACCESS) == EFI_VARIABLE_RUNTIME_ACCESS)
+        return EFI_INVALID_PARAMETER;
+    if ((attributes & EFI_VARIABLE_HARDWARE_ERROR_RECORD) != 0 &&
+        (attributes & OF_ERRORS) != OF_ERRORS)
+        return EFI_INVALID_PARAMETER;
+    return EFI_SUCCESS;
 }
 
-static struct variable *new_variable(const CHAR16 *name, const EFI_GUID *guid)
+/* Once boot services have ended, only what is both non-volatile and for then can be changed. */
+static EFI_STATUS runtime_status(const struct variable *old, uint32_t attributes)
+{
+    if (!host.exited)
+        return EFI_SUCCESS;
+    if (old != NULL)
+        return (old->attributes & OF_RUNTIME) == OF_RUNTIME ? EFI_SUCCESS : EFI_WRITE_PROTECTED;
+    return (attributes & OF_RUNTIME) == OF_RUNTIME ? EFI_SUCCESS : EFI_INVALID_PARAMETER;
+}
+
+/* A variable of this name with the value, behind the old one where it appends. */
+static struct variable *made_variable(const CHAR16 *name, const EFI_GUID *guid,
+                                      const struct variable *old, UINTN size, const void *value)
 {
     struct variable *it = must(calloc(1, sizeof *it));
+    size_t before = old == NULL ? 0 : old->size;
 
     memcpy(it->name, name, 2 * wide_length(name));
     it->guid = *guid;
-    it->next = first;
-    first = it;
+    it->size = before + size;
+    it->value = must(malloc(it->size + 1));
+    if (before != 0)
+        memcpy(it->value, old->value, before);
+    if (size != 0)
+        memcpy(it->value + before, value, size);
     return it;
+}
+
+/* Puts a variable, or nothing, in the place of another, or of nothing, and saves that. Where it
+ * can't be saved all is as it was. */
+static EFI_STATUS replace(struct variable **link, struct variable *it)
+{
+    struct variable *old = *link;
+    uint32_t kept = (old == NULL ? 0 : old->attributes) | (it == NULL ? 0 : it->attributes);
+
+    if (it != NULL)
+        it->next = old == NULL ? NULL : old->next;
+    *link = it != NULL ? it : old->next;
+    if ((kept & EFI_VARIABLE_NON_VOLATILE) != 0 && !save_variables(first)) {
+        *link = old;
+        free_variable(it);
+        return EFI_DEVICE_ERROR;
+    }
+    free_variable(old);
+    return EFI_SUCCESS;
+}
+
+/* Puts a variable where there is room for it; one that has its value already stays. */
+static EFI_STATUS put_variable(struct variable **link, struct variable *it)
+{
+    const struct variable *old = *link;
+    size_t room = variable_room(first, it->attributes) + (old == NULL ? 0 : variable_cost(old));
+    EFI_STATUS status = EFI_SUCCESS;
+
+    if (it->size > MAX_VALUE_SIZE || variable_cost(it) > room)
+        status = EFI_OUT_OF_RESOURCES;
+    else if (old == NULL || old->size != it->size || memcmp(old->value, it->value, it->size) != 0)
+        return replace(link, it);
+    free_variable(it);
+    return status;
 }
 
 static EFI_STATUS set_variable(const CHAR16 *name, const EFI_GUID *guid, uint32_t attributes,
                                UINTN size, const void *value)
 {
-    struct variable **link = link_of(name, guid), *it = *link;
+    struct variable **link = variable_link(&first, name, guid), *old = *link, *it;
     bool appends = (attributes & EFI_VARIABLE_APPEND_WRITE) != 0;
-    uint32_t access = EFI_VARIABLE_BOOTSERVICE_ACCESS | EFI_VARIABLE_RUNTIME_ACCESS;
+    bool deletes = (size == 0 && !appends) || (attributes & ACCESS) == 0;
+    EFI_STATUS status = runtime_status(old, attributes);
 
     attributes &= ~EFI_VARIABLE_APPEND_WRITE;
-    if ((size == 0 && !appends) || (attributes & access) == 0) {
-        if (it == NULL)
-            return EFI_NOT_FOUND;
-        remove_variable(link);
-        return EFI_SUCCESS;
-    }
-    if (it != NULL && it->attributes != attributes)
+    if (deletes && old == NULL)
+        return EFI_NOT_FOUND;
+    if (status != EFI_SUCCESS)
+        return status;
+    if (old != NULL && (attributes & ACCESS) != 0 && old->attributes != attributes)
         return EFI_INVALID_PARAMETER;
-    if (it == NULL)
-        it = new_variable(name, guid);
-    if (!appends)
-        it->size = 0;
-    if (size > MAX_VALUE_SIZE - it->size)
+    if (deletes)
+        return replace(link, NULL);
+    if (size == 0)
+        return EFI_SUCCESS;
+    if (size > MAX_VALUE_SIZE)
         return EFI_OUT_OF_RESOURCES;
-    it->value = must(realloc(it->value, it->size + size + 1));
-    if (size != 0)
-        memcpy(it->value + it->size, value, size);
-    it->size += size;
+    it = made_variable(name, guid, appends ? old : NULL, size, value);
     it->attributes = attributes;
-    return EFI_SUCCESS;
+    return put_variable(link, it);
 }
 
 static EFI_STATUS EFIAPI SetVariable(const CHAR16 *name, const EFI_GUID *guid, uint32_t attributes,
@@ -199,15 +165,21 @@ static EFI_STATUS EFIAPI SetVariable(const CHAR16 *name, const EFI_GUID *guid, u
     EFI_STATUS status;
 
     if (name == NULL || *name == 0 || guid == NULL || (value == NULL && size != 0) ||
-        wide_length(name) >= MAX_NAME_LENGTH ||
-        (attributes & (EFI_VARIABLE_BOOTSERVICE_ACCESS | EFI_VARIABLE_RUNTIME_ACCESS)) ==
-            EFI_VARIABLE_RUNTIME_ACCESS)
+        wide_length(name) >= MAX_NAME_LENGTH)
         ANSWER(EFI_INVALID_PARAMETER);
-    touch(value, size < MAX_VALUE_SIZE ? size : MAX_VALUE_SIZE, false);
-    status = set_variable(name, guid, attributes, size, value);
+    touch(value, size <= MAX_VALUE_SIZE ? size : 0, false);
+    status = attributes_status(attributes);
     if (status == EFI_SUCCESS)
-        write_store();
+        status = set_variable(name, guid, attributes, size, value);
     ANSWER(status);
+}
+
+static bool ends_within(const CHAR16 *name, UINTN size)
+{
+    for (UINTN i = 0; i < size / sizeof *name; i++)
+        if (name[i] == 0)
+            return true;
+    return false;
 }
 
 static EFI_STATUS EFIAPI GetNextVariableName(UINTN *size, CHAR16 *name, EFI_GUID *guid)
@@ -216,14 +188,16 @@ static EFI_STATUS EFIAPI GetNextVariableName(UINTN *size, CHAR16 *name, EFI_GUID
     struct variable *it = first;
     size_t needed;
 
-    if (size == NULL || name == NULL || guid == NULL)
+    if (size == NULL || name == NULL || guid == NULL || !ends_within(name, *size))
         ANSWER(EFI_INVALID_PARAMETER);
     if (*name != 0) {
-        it = *link_of(name, guid);
-        if (it == NULL)
+        it = *variable_link(&first, name, guid);
+        if (!is_seen(it))
             ANSWER(EFI_INVALID_PARAMETER);
         it = it->next;
     }
+    while (it != NULL && !is_seen(it))
+        it = it->next;
     if (it == NULL)
         ANSWER(EFI_NOT_FOUND);
     needed = 2 * (wide_length(it->name) + 1);
@@ -242,13 +216,17 @@ static EFI_STATUS EFIAPI QueryVariableInfo(uint32_t attributes, uint64_t *most, 
                                            uint64_t *largest)
 {
     RUNTIME_SERVICE("QueryVariableInfo", attributes);
-    if (most == NULL || left == NULL || largest == NULL)
+
+    if (most == NULL || left == NULL || largest == NULL || (attributes & ACCESS) == 0 ||
+        (attributes & ACCESS) == EFI_VARIABLE_RUNTIME_ACCESS)
         ANSWER(EFI_INVALID_PARAMETER);
-    *most = ROOM;
-    *left = ROOM;
-    for (struct variable *it = first; it != NULL; it = it->next)
-        *left -= it->size < *left ? it->size : *left;
-    *largest = MAX_VALUE_SIZE;
+    if ((attributes & ~KNOWN) != 0)
+        ANSWER(EFI_UNSUPPORTED);
+    *most = VARIABLE_ROOM;
+    *left = variable_room(first, attributes);
+    *largest = *left < VARIABLE_OVERHEAD ? 0 : *left - VARIABLE_OVERHEAD;
+    if (*largest > MAX_VALUE_SIZE)
+        *largest = MAX_VALUE_SIZE;
     ANSWER(EFI_SUCCESS);
 }
 
