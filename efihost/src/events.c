@@ -8,6 +8,8 @@
 #include <time.h>
 
 #define SLEEP_MS 50
+#define MOST_SKIPPED (UINT64_MAX / 4) /* some 14,000 years */
+#define NEVER (UINT64_MAX / 2)        /* a time that doesn't come */
 #define IN_VAIN 3000U /* waits for a key that are made after the last one */
 
 struct event {
@@ -39,7 +41,13 @@ uint64_t now_100ns(void)
 
 void skip_time(uint64_t amount)
 {
-    skipped += amount;
+    skipped = amount < MOST_SKIPPED - skipped ? skipped + amount : MOST_SKIPPED;
+}
+
+/* When a time has passed from now on. */
+static uint64_t due_after(uint64_t now, uint64_t time)
+{
+    return time < NEVER - now ? now + time : NEVER;
 }
 
 static struct event *event_of(EFI_EVENT event)
@@ -71,7 +79,7 @@ static void run_timers(void)
 
     for (struct event *it = events; it != NULL; it = it->next)
         if (it->due != 0 && it->due <= now) {
-            it->due = it->period == 0 ? 0 : now + it->period;
+            it->due = it->period == 0 ? 0 : due_after(now, it->period);
             signal_event(it);
         }
 }
@@ -122,7 +130,7 @@ void idle(bool wants_key)
     if (host.signalled)
         heed_signals();
     for (struct event *it = events; it != NULL; it = it->next)
-        if (it->due != 0 && (first == 0 || it->due < first))
+        if (it->due != 0 && it->due != NEVER && (first == 0 || it->due < first))
             first = it->due;
     if (!keys_may_come()) {
         in_vain = wants_key && keys_are_over() ? in_vain + 1 : 0;
@@ -289,11 +297,11 @@ static EFI_STATUS EFIAPI SetTimer(EFI_EVENT event, uint32_t kind, uint64_t time)
     SERVICE("SetTimer", NUMBER(event), kind, time);
     struct event *it = event_of(event);
 
-    if (it == NULL || kind > TIMER_RELATIVE)
+    if (it == NULL || (it->type & EVT_TIMER) == 0 || kind > TIMER_RELATIVE)
         ANSWER(EFI_INVALID_PARAMETER);
     if (time == 0)
         time = kind == TIMER_PERIODIC ? 100000 : 1;
-    it->due = kind == TIMER_CANCEL ? 0 : now_100ns() + time;
+    it->due = kind == TIMER_CANCEL ? 0 : due_after(now_100ns(), time);
     it->period = kind == TIMER_PERIODIC ? time : 0;
     ANSWER(EFI_SUCCESS);
 }

@@ -440,7 +440,7 @@ void make_disks(void);
 bool disk_is_read_only(size_t number);
 uint64_t make_folder(const char *path, unsigned number, bool read_only);
 EFI_FILE_PROTOCOL *folder_root(int folder);
-void write_time(EFI_TIME *to, int64_t seconds);
+bool write_time(EFI_TIME *to, int64_t seconds);
 const char *application_path(const char *file, EFI_HANDLE *device);
 void make_graphics(void);
 void save_picture(void);

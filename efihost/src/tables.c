@@ -63,7 +63,7 @@ static EFI_STATUS EFIAPI Stall(UINTN microseconds)
         fflush(stdout);
         usleep((useconds_t)(microseconds > 3600000000U ? 3600000000U : microseconds));
     } else {
-        skip_time(microseconds * 10);
+        skip_time(microseconds > UINT64_MAX / 10 ? UINT64_MAX : microseconds * 10);
     }
     dispatch();
     ANSWER(EFI_SUCCESS);
