@@ -8,7 +8,7 @@
 #include <string.h>
 
 #define MAX_DEPTH 8U
-#define MAX_UNPACKED_SIZE (256U << 20)
+#define MAX_UNPACKED_SIZE ((size_t)128 << 20) /* of all sections together */
 #define VOLUME_HEADER 56U
 #define FILE_HEADER 24U
 #define PADDING 0xf0
@@ -27,6 +27,8 @@ static struct firmware_image {
 static size_t image_count;
 static uint8_t **buffers; /* in which the images lie */
 static size_t buffer_count;
+static size_t unpacked_size; /* of all sections, those that are damaged among them */
+static bool too_large;
 
 /* What is found in one file: its image and its name. */
 struct contents {
@@ -58,7 +60,8 @@ static void read_sections(uint8_t *bytes, size_t count, struct contents *to, uns
 static void read_packed(uint8_t *bytes, size_t count, size_t header, struct contents *to,
                         unsigned depth)
 {
-    size_t start = count < header + 20 ? count : number(bytes + header + 16, 2), length;
+    size_t start = count < header + 20 ? count : number(bytes + header + 16, 2);
+    uint64_t length;
     uint8_t *unpacked;
 
     if (start >= count)
@@ -67,11 +70,17 @@ static void read_packed(uint8_t *bytes, size_t count, size_t header, struct cont
         read_sections(bytes + start, count - start, to, depth);
         return;
     }
-    unpacked = lzma_decode(bytes + start, count - start, MAX_UNPACKED_SIZE, &length);
+    length = lzma_size(bytes + start, count - start);
+    if (length > MAX_UNPACKED_SIZE - unpacked_size) {
+        too_large = true;
+        return;
+    }
+    unpacked_size += length;
+    unpacked = lzma_decode(bytes + start, count - start);
     if (unpacked == NULL)
         return;
     keep_buffer(unpacked);
-    read_sections(unpacked, length, to, depth);
+    read_sections(unpacked, (size_t)length, to, depth);
 }
 
 static void read_section(uint8_t *bytes, size_t count, size_t header, struct contents *to,
@@ -176,6 +185,8 @@ void open_firmware(const char *name)
         refuse("cannot read %s: %s", name, strerror(errno));
     keep_buffer(bytes);
     read_volumes(bytes, count, MAX_DEPTH);
+    if (too_large)
+        refuse("%s: its sections unpack to more than %zu MiB", name, MAX_UNPACKED_SIZE >> 20);
     if (image_count == 0)
         refuse("%s: no images in firmware volumes", name);
 }
@@ -197,5 +208,6 @@ void close_firmware(void)
     while (buffer_count > 0)
         free(buffers[--buffer_count]);
     free(images);
+    images = NULL;
     image_count = 0;
 }

@@ -87,7 +87,8 @@ enum ending {
 void open_firmware(const char *name);
 void close_firmware(void);
 uint8_t *firmware_image(const char *name, size_t *length);
-uint8_t *lzma_decode(const uint8_t *bytes, size_t count, size_t most, size_t *length);
+uint64_t lzma_size(const uint8_t *bytes, size_t count);
+uint8_t *lzma_decode(const uint8_t *bytes, size_t count);
 
 /* ---- options.c ---- */
 void read_options(int count, char **words, struct options *options);

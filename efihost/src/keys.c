@@ -2,6 +2,7 @@
  * input. In a text a line's end is Enter, and a word in << >> is a key that has no letter. What a
  * pipe has not yet is waited for as on a terminal. */
 #include "host.h"
+#include "numbers.h"
 
 #include <errno.h>
 #include <fcntl.h>
@@ -176,10 +177,13 @@ static bool read_word(char *word, size_t room)
 static void take_words(void)
 {
     char word[16];
+    uint64_t seconds;
 
     while (wait_until == 0 && special_key == 0 && read_word(word, sizeof word)) {
         if (strncmp(word, "wait ", 5) == 0) {
-            wait_until = now_100ns() + strtoull(word + 5, NULL, 10) * 10000000;
+            if (!number_of_digits(word + 5, strlen(word + 5), 10, &seconds) || word[5] == 0)
+                refuse("input: <<%s>> has no number of seconds", word);
+            wait_until = now_100ns() + seconds * 10000000;
             continue;
         }
         for (size_t i = 0; i < LENGTH(specials); i++)

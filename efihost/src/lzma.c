@@ -9,6 +9,7 @@
 #define HALF 1024U /* the chance of a bit, of 2048, at first */
 #define STATES 12U
 #define POSITIONS 16U
+#define MAX_LITERAL_BITS 4
 
 typedef uint16_t chance;
 
@@ -199,21 +200,30 @@ static bool decode(struct decoder *it)
     return !it->bad;
 }
 
-/* What a stream of at most `most` bytes holds, which is the caller's to free; NULL where it is
- * damaged. */
-uint8_t *lzma_decode(const uint8_t *bytes, size_t count, size_t most, size_t *length)
+/* How many bytes a stream says that it holds; 0 where it is none, or has larger tables than
+ * firmwares and other decoders of LZMA have. */
+uint64_t lzma_size(const uint8_t *bytes, size_t count)
 {
-    struct decoder *it;
     uint64_t size = 0;
+
+    if (count < HEADER + 5 || bytes[0] >= 9 * 5 * 5 ||
+        bytes[0] % 9 + bytes[0] / 9 % 5 > MAX_LITERAL_BITS)
+        return 0;
+    for (unsigned i = 0; i < 8; i++)
+        size |= (uint64_t)bytes[5 + i] << 8 * i;
+    return size;
+}
+
+/* What a stream holds, which is the caller's to free; NULL where it is damaged. */
+uint8_t *lzma_decode(const uint8_t *bytes, size_t count)
+{
+    uint64_t size = lzma_size(bytes, count);
+    struct decoder *it;
     size_t literals;
     uint8_t *to;
     bool good;
 
-    if (count < HEADER + 5 || bytes[0] >= 9 * 5 * 5)
-        return NULL;
-    for (unsigned i = 0; i < 8; i++)
-        size |= (uint64_t)bytes[5 + i] << 8 * i;
-    if (size > most)
+    if (size == 0 || bytes[HEADER] != 0)
         return NULL;
     literals = (size_t)0x300 << (bytes[0] % 9 + bytes[0] / 9 % 5);
     it = must(calloc(1, sizeof *it + literals * sizeof(chance)));
@@ -227,8 +237,8 @@ uint8_t *lzma_decode(const uint8_t *bytes, size_t count, size_t most, size_t *le
         it->code = it->code << 8 | bytes[HEADER + i];
     it->at = bytes + HEADER + 5;
     it->end = bytes + count;
-    it->size = *length = size;
-    it->to = must(malloc(size + 1));
+    it->size = size;
+    it->to = must(malloc(size));
     good = decode(it);
     to = it->to;
     free(it);

@@ -8,6 +8,8 @@
 #include <string.h>
 #include <unistd.h>
 
+#define MAX_SYMBOLS (1U << 20)
+#define MAX_SYMBOL_LENGTH 255
 #define HEAD 4096
 #define MAP_BASE " Preferred load address is "
 
@@ -30,7 +32,7 @@ static void keep_symbol(struct image *image, uint64_t offset, const char *name, 
 {
     struct symbol *symbol;
 
-    if (offset >= image->size || length == 0)
+    if (offset >= image->size || length == 0 || image->symbol_count == MAX_SYMBOLS)
         return;
     image->symbols =
         must(realloc(image->symbols, (image->symbol_count + 1) * sizeof *image->symbols));
@@ -62,6 +64,8 @@ static void read_map(struct image *image, char *text)
 static void read_elf_table(struct image *image, const uint8_t *file, size_t length,
                            const Elf64_Shdr *table, const Elf64_Shdr *names)
 {
+    size_t most;
+
     if (table->sh_offset > length || table->sh_size > length - table->sh_offset ||
         names->sh_offset > length || names->sh_size > length - names->sh_offset)
         return;
@@ -73,10 +77,13 @@ static void read_elf_table(struct image *image, const uint8_t *file, size_t leng
         if (ELF64_ST_TYPE(symbol.st_info) != STT_FUNC || symbol.st_name >= names->sh_size)
             continue;
         name = (const char *)file + names->sh_offset + symbol.st_name;
-        keep_symbol(image, symbol.st_value, name, strnlen(name, names->sh_size - symbol.st_name));
+        most = names->sh_size - symbol.st_name;
+        most = most < MAX_SYMBOL_LENGTH ? most : MAX_SYMBOL_LENGTH;
+        keep_symbol(image, symbol.st_value, name, strnlen(name, most));
     }
 }
 
+/* Reads the table of symbols; a file has at most one. */
 static void read_elf(struct image *image, const uint8_t *file, size_t length)
 {
     Elf64_Ehdr header;
@@ -95,7 +102,19 @@ static void read_elf(struct image *image, const uint8_t *file, size_t length)
             continue;
         memcpy(&names, file + header.e_shoff + table.sh_link * sizeof names, sizeof names);
         read_elf_table(image, file, length, &table, &names);
+        return;
     }
+}
+
+/* Reads names from the bytes of a file, of ELF or else a map, which a zero byte follows. */
+static void read_bytes(struct image *image, uint8_t *file, size_t length)
+{
+    if (length > SELFMAG && memcmp(file, ELFMAG, SELFMAG) == 0)
+        read_elf(image, file, length);
+    else
+        read_map(image, (char *)file);
+    if (image->symbol_count > 0)
+        qsort(image->symbols, image->symbol_count, sizeof *image->symbols, by_offset);
 }
 
 /* Whether a file begins as one of ELF does, or as a map. Of any other file, which an image may name
@@ -161,15 +180,11 @@ void read_symbols(struct image *image, const char *file)
 
         if (it->image != file || it->bytes == NULL)
             continue;
-        if (image->symbol_count == 0 && memcmp(it->bytes, ELFMAG, SELFMAG) == 0)
-            read_elf(image, it->bytes, it->length);
-        else if (image->symbol_count == 0)
-            read_map(image, (char *)it->bytes);
+        if (image->symbol_count == 0)
+            read_bytes(image, it->bytes, it->length);
         free(it->bytes);
         it->bytes = NULL;
     }
-    if (image->symbol_count > 0)
-        qsort(image->symbols, image->symbol_count, sizeof *image->symbols, by_offset);
 }
 
 /* The name of the function at an offset, or NULL. */

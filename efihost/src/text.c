@@ -1,8 +1,11 @@
 /* Texts: UTF-16 and UTF-8, statuses and GUIDs as words, checksums; and memory of the host. */
 #include "host.h"
 
+#include <errno.h>
 #include <stdlib.h>
 #include <string.h>
+
+#define MAX_FILE_SIZE (1ULL << 30)
 
 const EFI_GUID device_path_guid = {
     0x09576e91, 0x6d3f, 0x11d2, {0x8e, 0x39, 0x00, 0xa0, 0xc9, 0x69, 0x72, 0x3b}};
@@ -222,7 +225,8 @@ void *must(void *memory)
     return memory;
 }
 
-/* The bytes of a file of the host with a zero byte behind, or NULL. */
+/* The bytes of a file of the host with a zero byte behind, or NULL; one that is very long has
+ * none, so that a device without an end is no file. */
 uint8_t *read_file(const char *name, size_t *length)
 {
     FILE *file = fopen(name, "rb");
@@ -232,12 +236,14 @@ uint8_t *read_file(const char *name, size_t *length)
     if (file == NULL)
         return NULL;
     bytes = must(malloc(room + 1));
-    while ((more = fread(bytes + count, 1, room - count, file)) > 0) {
+    while (room <= MAX_FILE_SIZE && (more = fread(bytes + count, 1, room - count, file)) > 0) {
         count += more;
         if (count == room)
             bytes = must(realloc(bytes, (room *= 2) + 1));
     }
-    if (ferror(file)) {
+    if (room > MAX_FILE_SIZE)
+        errno = EFBIG;
+    if (room > MAX_FILE_SIZE || ferror(file)) {
         free(bytes);
         bytes = NULL;
     } else {
