@@ -21,7 +21,7 @@ static const char usage[] =
     "                    named instead of files\n"
     "  --driver FILE     a driver's .efi, started before the application; drivers are then\n"
     "                    connected to all handles\n"
-    "  --variables FILE  where non-volatile variables are kept\n"
+    "  --variables FILE  where non-volatile variables are kept; FILE.efihost is beside it\n"
     "  --input FILE      keys: text, its lines ended by Enter, and <<esc>>, <<up>>, <<down>>,\n"
     "                    <<left>>, <<right>>, <<home>>, <<end>>, <<insert>>, <<delete>>,\n"
     "                    <<pageup>>, <<pagedown>>, <<f1>> to <<f12>>, <<wait SECONDS>>;\n"
