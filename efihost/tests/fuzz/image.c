@@ -37,8 +37,12 @@ void protect_memory(uint64_t address, uint64_t size, int rights)
 
 int LLVMFuzzerTestOneInput(const uint8_t *data, size_t size)
 {
-    struct image image = {.name = "image"};
+    struct image image = {.name = "image"}, peeked = {.name = "image"};
+    struct headers headers;
 
+    if (read_headers(data, size, &headers) && headers.size <= MOST_PAGES * PAGE)
+        peek_debug_file(data, size, &peeked);
+    demand(strlen(peeked.debug_file) < sizeof peeked.debug_file);
     if (load_pe(data, size, &image) == EFI_SUCCESS) {
         demand(image.entry - image.base < image.size);
         demand(image.base + image.size <= NUMBER(memory) + memory_size);

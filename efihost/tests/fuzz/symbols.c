@@ -9,6 +9,13 @@ struct image *image_at(uint64_t address)
     return NULL;
 }
 
+void peek_debug_file(const uint8_t *file, uint64_t length, struct image *image)
+{
+    (void)file;
+    (void)length;
+    (void)image;
+}
+
 int LLVMFuzzerTestOneInput(const uint8_t *data, size_t size)
 {
     struct image image = {.name = "image", .size = 1 << 20};
