@@ -359,6 +359,8 @@ void apply_rights(struct image *image)
 
     if (image->section_count == 0) {
         protect_memory(image->base, image->size, PROT_READ | PROT_WRITE | PROT_EXEC);
+        free(image->sections);
+        image->sections = NULL;
         return;
     }
     cover = cover_pages(image, pages);
