@@ -12,6 +12,7 @@ static const EFI_GUID text_out_guid = {
     0x387477c2, 0x69c7, 0x11d2, {0x8e, 0x39, 0x00, 0xa0, 0xc9, 0x69, 0x72, 0x3b}};
 
 static EFI_SIMPLE_TEXT_OUTPUT_MODE mode = {1, 0, 7, 0, 0, 1};
+static EFI_SIMPLE_TEXT_OUTPUT_MODE *shown; /* what images see of it */
 static int row_of_text; /* the row in which plain text is */
 
 bool terminal_out(void)
@@ -81,6 +82,12 @@ static void put_letter(CHAR16 letter, CHAR16 next)
     }
 }
 
+static EFI_STATUS show_mode(void)
+{
+    set_structure(shown, &mode, sizeof mode);
+    return EFI_SUCCESS;
+}
+
 static EFI_STATUS EFIAPI output_string(EFI_SIMPLE_TEXT_OUTPUT_PROTOCOL *this, const CHAR16 *text)
 {
     SERVICE("OutputString", NUMBER(this), NUMBER(text));
@@ -91,14 +98,13 @@ static EFI_STATUS EFIAPI output_string(EFI_SIMPLE_TEXT_OUTPUT_PROTOCOL *this, co
         put_letter(text[0], text[1]);
     if (terminal_out())
         fflush(stdout);
-    ANSWER(EFI_SUCCESS);
+    ANSWER(show_mode());
 }
 
 static EFI_STATUS EFIAPI test_string(EFI_SIMPLE_TEXT_OUTPUT_PROTOCOL *this, const CHAR16 *text)
 {
-    (void)this;
-    (void)text;
-    return EFI_SUCCESS;
+    SERVICE("TestString", NUMBER(this), NUMBER(text));
+    ANSWER(EFI_SUCCESS);
 }
 
 static EFI_STATUS EFIAPI query_mode(EFI_SIMPLE_TEXT_OUTPUT_PROTOCOL *this, UINTN number,
@@ -117,50 +123,56 @@ static EFI_STATUS EFIAPI query_mode(EFI_SIMPLE_TEXT_OUTPUT_PROTOCOL *this, UINTN
 static EFI_STATUS EFIAPI set_attribute(EFI_SIMPLE_TEXT_OUTPUT_PROTOCOL *this, UINTN attribute)
 {
     static const int colours[] = {0, 4, 2, 6, 1, 5, 3, 7};
+    SERVICE("SetAttribute", NUMBER(this), attribute);
     char text[32];
 
-    (void)this;
     if (attribute > 0x7f)
-        return EFI_UNSUPPORTED;
+        ANSWER(EFI_UNSUPPORTED);
     mode.Attribute = (int32_t)attribute;
     if (terminal_out()) {
         snprintf(text, sizeof text, "\033[%d;%d;%dm", (attribute & 8) != 0 ? 1 : 22,
                  30 + colours[attribute & 7], 40 + colours[attribute >> 4 & 7]);
         put_text(text);
     }
-    return EFI_SUCCESS;
+    ANSWER(show_mode());
 }
 
-static EFI_STATUS EFIAPI clear_screen(EFI_SIMPLE_TEXT_OUTPUT_PROTOCOL *this)
+static EFI_STATUS clear(void)
 {
-    (void)this;
     screen_clear(mode.Attribute);
     if (terminal_out())
         put_text("\033[2J\033[H");
     else if (mode.CursorColumn != 0)
         put_text("\n");
     mode.CursorColumn = mode.CursorRow = row_of_text = 0;
-    return EFI_SUCCESS;
+    return show_mode();
+}
+
+static EFI_STATUS EFIAPI clear_screen(EFI_SIMPLE_TEXT_OUTPUT_PROTOCOL *this)
+{
+    SERVICE("ClearScreen", NUMBER(this));
+    ANSWER(clear());
 }
 
 static EFI_STATUS EFIAPI reset_out(EFI_SIMPLE_TEXT_OUTPUT_PROTOCOL *this, BOOLEAN extended)
 {
-    (void)extended;
-    return clear_screen(this);
+    SERVICE("SimpleTextOutput.Reset", NUMBER(this), extended);
+    ANSWER(clear());
 }
 
 static EFI_STATUS EFIAPI set_mode(EFI_SIMPLE_TEXT_OUTPUT_PROTOCOL *this, UINTN number)
 {
-    return number != 0 ? EFI_UNSUPPORTED : clear_screen(this);
+    SERVICE("SimpleTextOutput.SetMode", NUMBER(this), number);
+    ANSWER(number != 0 ? EFI_UNSUPPORTED : clear());
 }
 
 static EFI_STATUS EFIAPI set_cursor(EFI_SIMPLE_TEXT_OUTPUT_PROTOCOL *this, UINTN column, UINTN row)
 {
+    SERVICE("SetCursorPosition", NUMBER(this), column, row);
     char text[32];
 
-    (void)this;
     if (column >= COLUMNS || row >= ROWS)
-        return EFI_UNSUPPORTED;
+        ANSWER(EFI_UNSUPPORTED);
     if (terminal_out()) {
         snprintf(text, sizeof text, "\033[%u;%uH", (unsigned)row + 1, (unsigned)column + 1);
         put_text(text);
@@ -174,29 +186,34 @@ static EFI_STATUS EFIAPI set_cursor(EFI_SIMPLE_TEXT_OUTPUT_PROTOCOL *this, UINTN
     }
     mode.CursorColumn = (int32_t)column;
     mode.CursorRow = row_of_text = (int)row;
-    return EFI_SUCCESS;
+    ANSWER(show_mode());
 }
 
 static EFI_STATUS EFIAPI enable_cursor(EFI_SIMPLE_TEXT_OUTPUT_PROTOCOL *this, BOOLEAN visible)
 {
-    (void)this;
-    mode.CursorVisible = visible;
+    SERVICE("EnableCursor", NUMBER(this), visible);
+
+    mode.CursorVisible = visible != 0;
     if (terminal_out())
         put_text(visible ? "\033[?25h" : "\033[?25l");
-    return EFI_SUCCESS;
+    ANSWER(show_mode());
 }
-
-static EFI_SIMPLE_TEXT_OUTPUT_PROTOCOL text_out = {
-    reset_out,     output_string, test_string, query_mode,    set_mode,
-    set_attribute, clear_screen,  set_cursor,  enable_cursor, &mode};
 
 void make_console(void)
 {
+    EFI_SIMPLE_TEXT_OUTPUT_PROTOCOL functions = {
+        reset_out,     output_string, test_string, query_mode,    set_mode,
+        set_attribute, clear_screen,  set_cursor,  enable_cursor, NULL};
     uint64_t out = 0;
+    void *text_out;
 
     open_screen(host.options.screen);
     make_text_in();
-    install_one(&out, &text_out_guid, 0, NUMBER(&text_out));
+    shown = need_structure("SimpleTextOutput.Mode", &mode, sizeof mode);
+    functions.Mode = shown;
+    text_out = need_structure("SimpleTextOutput", &functions, sizeof functions);
+    install_one(&out, &text_out_guid, 0, NUMBER(text_out));
     host.table->ConsoleOutHandle = host.table->StandardErrorHandle = HANDLE(out);
-    host.table->ConOut = host.table->StdErr = &text_out;
+    host.table->ConOut = host.table->StdErr = text_out;
+    show_tables();
 }

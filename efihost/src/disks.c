@@ -12,15 +12,15 @@
 
 #define SECTOR 512U
 
-struct disk {
-    EFI_BLOCK_IO_PROTOCOL protocol;
+static struct disk {
+    void *shown; /* what images see of it */
     EFI_BLOCK_IO_MEDIA media;
-    uint8_t path[32];
     int file;
     bool read_only;
     uint64_t blocks;
     uint8_t *copy; /* with --snapshot: the file's bytes, which become the process's own if written */
-};
+} disks[MAX_DISKS];
+static size_t disk_count;
 
 static struct {
     char *path;
@@ -31,14 +31,23 @@ static char *whole_application; /* its whole path on the host, or NULL */
 
 static EFI_STATUS EFIAPI reset_disk(EFI_BLOCK_IO_PROTOCOL *this, BOOLEAN extended)
 {
-    (void)this;
-    (void)extended;
-    return EFI_SUCCESS;
+    SERVICE("BlockIo.Reset", NUMBER(this), extended);
+    ANSWER(EFI_SUCCESS);
+}
+
+static const struct disk *disk_of(const EFI_BLOCK_IO_PROTOCOL *shown)
+{
+    for (size_t i = 0; i < disk_count; i++)
+        if (disks[i].shown == shown)
+            return &disks[i];
+    return NULL;
 }
 
 /* Whether a request fits a disk. */
 static EFI_STATUS judge(const struct disk *disk, uint32_t media, uint64_t block, UINTN size)
 {
+    if (disk == NULL)
+        return EFI_INVALID_PARAMETER;
     if (media != disk->media.MediaId)
         return EFI_MEDIA_CHANGED;
     if (size % SECTOR != 0)
@@ -52,7 +61,7 @@ static EFI_STATUS EFIAPI read_blocks(EFI_BLOCK_IO_PROTOCOL *this, uint32_t media
                                      UINTN size, void *bytes)
 {
     SERVICE("BlockIo.ReadBlocks", NUMBER(this), block, size, NUMBER(bytes));
-    struct disk *disk = (struct disk *)this;
+    const struct disk *disk = disk_of(this);
     EFI_STATUS status = judge(disk, media, block, size);
     char *to = bytes;
 
@@ -79,7 +88,7 @@ static EFI_STATUS EFIAPI write_blocks(EFI_BLOCK_IO_PROTOCOL *this, uint32_t medi
                                       UINTN size, const void *bytes)
 {
     SERVICE("BlockIo.WriteBlocks", NUMBER(this), block, size, NUMBER(bytes));
-    struct disk *disk = (struct disk *)this;
+    const struct disk *disk = disk_of(this);
     EFI_STATUS status = judge(disk, media, block, size);
 
     if (status != EFI_SUCCESS || size == 0)
@@ -99,8 +108,11 @@ static EFI_STATUS EFIAPI write_blocks(EFI_BLOCK_IO_PROTOCOL *this, uint32_t medi
 static EFI_STATUS EFIAPI flush_blocks(EFI_BLOCK_IO_PROTOCOL *this)
 {
     SERVICE("BlockIo.FlushBlocks", NUMBER(this));
+    const struct disk *disk = disk_of(this);
 
-    ANSWER(fsync(((struct disk *)this)->file) == 0 ? EFI_SUCCESS : EFI_DEVICE_ERROR);
+    if (disk == NULL)
+        ANSWER(EFI_INVALID_PARAMETER);
+    ANSWER(fsync(disk->file) == 0 ? EFI_SUCCESS : EFI_DEVICE_ERROR);
 }
 
 /* Whether the process only reads a disk. */
@@ -135,10 +147,13 @@ static void open_disk(struct disk *disk, const char *name, unsigned number)
 
 static void make_disk(const char *name, unsigned number)
 {
-    static const uint8_t path[] = {2, 1, 12, 0, 0xd0, 0x41, 3, 0x0a, 0,    0,    0, 0,
-                                   1, 5, 8,  0, 0,    0,    0, 0,    0x7f, 0xff, 4, 0};
-    struct disk *disk = must(calloc(1, sizeof *disk));
+    uint8_t path[] = {2, 1, 12, 0, 0xd0, 0x41, 3, 0x0a, 0,    0,    0, 0,
+                      1, 5, 8,  0, 0,    0,    0, 0,    0x7f, 0xff, 4, 0};
+    EFI_BLOCK_IO_PROTOCOL functions = {0x10000,     NULL,         reset_disk,
+                                       read_blocks, write_blocks, flush_blocks};
+    struct disk *disk = &disks[disk_count++];
     uint64_t handle = 0;
+    void *shown_path;
 
     open_disk(disk, name, number);
     disk->media.MediaId = 1;
@@ -146,12 +161,12 @@ static void make_disk(const char *name, unsigned number)
     disk->media.ReadOnly = disk->read_only;
     disk->media.LastBlock = disk->blocks - 1;
     disk->media.BlockSize = SECTOR;
-    disk->protocol = (EFI_BLOCK_IO_PROTOCOL){0x10000,     &disk->media, reset_disk,
-                                             read_blocks, write_blocks, flush_blocks};
-    memcpy(disk->path, path, sizeof path);
-    disk->path[16] = (uint8_t)number;
-    install_one(&handle, &block_io_guid, 0, NUMBER(&disk->protocol));
-    install_one(&handle, &device_path_guid, 0, NUMBER(disk->path));
+    path[16] = (uint8_t)number;
+    functions.Media = need_structure("BlockIo.Media", &disk->media, sizeof disk->media);
+    disk->shown = need_structure("BlockIo", &functions, sizeof functions);
+    shown_path = need_structure("a disk's device path", path, sizeof path);
+    install_one(&handle, &block_io_guid, 0, NUMBER(disk->shown));
+    install_one(&handle, &device_path_guid, 0, NUMBER(shown_path));
 }
 
 /* The paths of the host are found here, while the process may look for them. */

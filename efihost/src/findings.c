@@ -24,7 +24,7 @@ const char *finding_name(enum finding kind)
     static const char *const names[FINDING_KINDS] = {
         "behind-block", "before-block", "use-after-free", "free-not-live", "never-placed",
         "run-border",   "image-rights", "leak",           "stale-key",     "after-exit",
-        "data-executed"};
+        "data-executed", "firmware-written"};
 
     return names[kind];
 }
@@ -74,10 +74,15 @@ void found_access(uint64_t address, uint64_t instruction, const char *how)
     struct block *block = ledger_block_around(address);
     struct freed *freed = ledger_freed_with(address);
     struct run *run = ledger_run_beside(address);
+    uint64_t byte;
+    const char *structure = structure_at(address, &byte);
 
     if (image_at(instruction) == NULL && host.call != NULL)
         origin = origin_now();
-    if (block != NULL && address >= block->at)
+    if (structure != NULL && write)
+        found(FIRMWARE_WRITTEN, &origin, "%s byte %lu of %s at 0x%lx, which images only read", how,
+              byte, structure, address - byte);
+    else if (block != NULL && address >= block->at)
         found(BEHIND_BLOCK, &origin, "%s byte %lu behind a block of %lu bytes at 0x%lx made by %s",
               how, address - block->at - block->size, block->size, block->at,
               origin_text(&block->origin));

@@ -16,8 +16,7 @@
 #include <unistd.h>
 
 static struct volume {
-    EFI_SIMPLE_FILE_SYSTEM_PROTOCOL protocol;
-    uint8_t path[32];
+    void *shown; /* what images see of it */
     struct folder folder;
 } volumes[MAX_DISKS];
 static size_t volume_count;
@@ -173,30 +172,33 @@ static EFI_STATUS EFIAPI open_volume(EFI_SIMPLE_FILE_SYSTEM_PROTOCOL *this,
                                      EFI_FILE_PROTOCOL **root)
 {
     SERVICE("OpenVolume", NUMBER(this));
-    struct volume *volume = (struct volume *)this;
+    size_t i = 0;
 
-    if (root == NULL)
+    while (i < volume_count && volumes[i].shown != this)
+        i++;
+    if (i == volume_count || root == NULL)
         ANSWER(EFI_INVALID_PARAMETER);
-    ANSWER(folder_open(&volume->folder, "", O_RDONLY, root));
+    ANSWER(folder_open(&volumes[i].folder, "", O_RDONLY, root));
 }
 
 /* The handle of a new file system. */
 uint64_t make_folder(const char *path, unsigned number, bool read_only)
 {
-    static const uint8_t device[] = {2, 1, 12, 0, 0xd0, 0x41, 3, 0x0a, 1,    0,    0, 0,
-                                     1, 5, 8,  0, 0,    0,    0, 0,    0x7f, 0xff, 4, 0};
+    uint8_t device[] = {2, 1, 12, 0, 0xd0, 0x41, 3, 0x0a, 1,    0,    0, 0,
+                        1, 5, 8,  0, 0,    0,    0, 0,    0x7f, 0xff, 4, 0};
+    const EFI_SIMPLE_FILE_SYSTEM_PROTOCOL functions = {0x10000, open_volume};
     struct volume *volume = &volumes[volume_count++];
     uint64_t handle = 0;
+    void *shown_path;
 
     volume->folder.read_only = read_only;
     volume->folder.root = open(path, O_RDONLY | O_DIRECTORY | O_CLOEXEC);
     if (volume->folder.root < 0)
         refuse("cannot read folder %s", path);
-    volume->protocol.Revision = 0x10000;
-    volume->protocol.OpenVolume = open_volume;
-    memcpy(volume->path, device, sizeof device);
-    volume->path[16] = (uint8_t)number;
-    install_one(&handle, &file_system_guid, 0, NUMBER(&volume->protocol));
-    install_one(&handle, &device_path_guid, 0, NUMBER(volume->path));
+    device[16] = (uint8_t)number;
+    volume->shown = need_structure("SimpleFileSystem", &functions, sizeof functions);
+    shown_path = need_structure("a folder's device path", device, sizeof device);
+    install_one(&handle, &file_system_guid, 0, NUMBER(volume->shown));
+    install_one(&handle, &device_path_guid, 0, NUMBER(shown_path));
     return handle;
 }

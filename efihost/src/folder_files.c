@@ -11,15 +11,22 @@
 #include <sys/statvfs.h>
 #include <unistd.h>
 
+#define HELD_BACK 256U /* closed files whose places are not used again yet */
+
 struct open_file {
-    EFI_FILE_PROTOCOL protocol;
+    EFI_FILE_PROTOCOL *shown; /* what images see of it */
+    bool open;
+    struct origin closed;
     const struct folder *folder;
     int file;
     DIR *list; /* of a folder */
     bool writes;
     uint64_t position;
     char path[FOLDER_PATH];
+    struct open_file *next;
 };
+static struct open_file *rows[64]; /* open and closed ones, by their addresses */
+static size_t closed_count;
 
 static const EFI_GUID file_info_guid = {
     0x09576e92, 0x6d3f, 0x11d2, {0x8e, 0x39, 0x00, 0xa0, 0xc9, 0x69, 0x72, 0x3b}};
@@ -28,6 +35,60 @@ static const EFI_GUID system_info_guid = {
 static const EFI_GUID label_guid = {
     0xdb47d7d3, 0xfe81, 0x11d3, {0x9a, 0x35, 0x00, 0x90, 0x27, 0x3f, 0xc1, 0x4d}};
 static const CHAR16 label[] = {'H', 'O', 'S', 'T', 0};
+
+static struct open_file **row_of(const EFI_FILE_PROTOCOL *shown)
+{
+    return &rows[NUMBER(shown) / 16 % LENGTH(rows)];
+}
+
+/* The open file that an image hands to a service, or NULL. One that is closed is a finding of this
+ * kind. */
+static struct open_file *file_of(const EFI_FILE_PROTOCOL *shown, enum finding kind)
+{
+    struct open_file *it = *row_of(shown);
+    struct origin origin;
+
+    while (it != NULL && it->shown != shown)
+        it = it->next;
+    if (it == NULL || it->open)
+        return it;
+    origin = origin_now();
+    found(kind, &origin, "%s of the file \"%s\", which %s closed", host.call->name, it->path,
+          origin_text(&it->closed));
+    return NULL;
+}
+
+static struct open_file *closed_longest(void)
+{
+    struct open_file *longest = NULL;
+
+    for (size_t i = 0; i < LENGTH(rows); i++)
+        for (struct open_file *it = rows[i]; it != NULL; it = it->next)
+            if (!it->open && (longest == NULL || it->closed.call < longest->closed.call))
+                longest = it;
+    return longest;
+}
+
+/* A new file: in a new place, or, if many are closed or there is no memory, in that of the one that
+ * is closed for the longest. NULL: there is none. */
+static struct open_file *new_file(const EFI_FILE_PROTOCOL *functions)
+{
+    EFI_FILE_PROTOCOL *shown = NULL;
+    struct open_file *it;
+
+    if (closed_count < HELD_BACK)
+        shown = make_structure("a file's functions", functions, sizeof *functions);
+    if (shown == NULL) {
+        it = closed_longest();
+        closed_count -= it != NULL;
+        return it;
+    }
+    it = must(calloc(1, sizeof *it));
+    it->shown = shown;
+    it->next = *row_of(shown);
+    *row_of(shown) = it;
+    return it;
+}
 
 /* The path of the folder that holds a file. */
 static void path_above(const struct open_file *it, char *above)
@@ -57,13 +118,13 @@ static EFI_STATUS EFIAPI open_below(EFI_FILE_PROTOCOL *this, EFI_FILE_PROTOCOL *
                                     const CHAR16 *name, uint64_t mode, uint64_t attributes)
 {
     SERVICE("File.Open", NUMBER(this), NUMBER(name), mode, attributes);
-    struct open_file *from = (struct open_file *)this;
+    struct open_file *from = file_of(this, USE_AFTER_FREE);
     const uint64_t changes = EFI_FILE_MODE_READ | EFI_FILE_MODE_WRITE;
     int flags = mode == EFI_FILE_MODE_READ ? O_RDONLY : O_RDWR;
     char above[FOLDER_PATH], path[FOLDER_PATH];
     EFI_STATUS status;
 
-    if (made == NULL || name == NULL ||
+    if (from == NULL || made == NULL || name == NULL ||
         (flags == O_RDWR && (mode & ~EFI_FILE_MODE_CREATE) != changes))
         ANSWER(EFI_INVALID_PARAMETER);
     if (from->list != NULL)
@@ -90,14 +151,19 @@ static void close_file(struct open_file *it)
         closedir(it->list);
     else
         close(it->file);
-    free(it);
+    it->open = false;
+    it->closed = origin_without_trail();
+    closed_count++;
 }
 
 static EFI_STATUS EFIAPI close_this(EFI_FILE_PROTOCOL *this)
 {
     SERVICE("File.Close", NUMBER(this));
+    struct open_file *it = file_of(this, FREE_NOT_LIVE);
 
-    close_file((struct open_file *)this);
+    if (it == NULL)
+        ANSWER(EFI_INVALID_PARAMETER);
+    close_file(it);
     ANSWER(EFI_SUCCESS);
 }
 
@@ -125,9 +191,12 @@ static bool delete(const struct open_file *it)
 static EFI_STATUS EFIAPI delete_this(EFI_FILE_PROTOCOL *this)
 {
     SERVICE("File.Delete", NUMBER(this));
-    struct open_file *it = (struct open_file *)this;
-    bool gone = *it->path != 0 && it->writes && delete(it);
+    struct open_file *it = file_of(this, FREE_NOT_LIVE);
+    bool gone;
 
+    if (it == NULL)
+        ANSWER(EFI_INVALID_PARAMETER);
+    gone = *it->path != 0 && it->writes && delete(it);
     close_file(it);
     ANSWER(gone ? EFI_SUCCESS : EFI_WARN_DELETE_FAILURE);
 }
@@ -197,10 +266,10 @@ static uint64_t bytes_left(const struct open_file *it)
 static EFI_STATUS EFIAPI read_this(EFI_FILE_PROTOCOL *this, UINTN *size, void *bytes)
 {
     SERVICE("File.Read", NUMBER(this), size == NULL ? 0 : *size, NUMBER(bytes));
-    struct open_file *it = (struct open_file *)this;
+    struct open_file *it = file_of(this, USE_AFTER_FREE);
     UINTN done = 0, left;
 
-    if (size == NULL || (bytes == NULL && *size != 0))
+    if (it == NULL || size == NULL || (bytes == NULL && *size != 0))
         ANSWER(EFI_INVALID_PARAMETER);
     if (it->list != NULL)
         ANSWER(read_entry(it, size, bytes));
@@ -224,10 +293,10 @@ static EFI_STATUS EFIAPI read_this(EFI_FILE_PROTOCOL *this, UINTN *size, void *b
 static EFI_STATUS EFIAPI write_this(EFI_FILE_PROTOCOL *this, UINTN *size, const void *bytes)
 {
     SERVICE("File.Write", NUMBER(this), size == NULL ? 0 : *size, NUMBER(bytes));
-    struct open_file *it = (struct open_file *)this;
+    struct open_file *it = file_of(this, USE_AFTER_FREE);
     ssize_t count;
 
-    if (size == NULL || (bytes == NULL && *size != 0))
+    if (it == NULL || size == NULL || (bytes == NULL && *size != 0))
         ANSWER(EFI_INVALID_PARAMETER);
     if (it->list != NULL)
         ANSWER(EFI_UNSUPPORTED);
@@ -244,9 +313,9 @@ static EFI_STATUS EFIAPI write_this(EFI_FILE_PROTOCOL *this, UINTN *size, const 
 static EFI_STATUS EFIAPI get_position(EFI_FILE_PROTOCOL *this, uint64_t *position)
 {
     SERVICE("File.GetPosition", NUMBER(this), NUMBER(position));
-    struct open_file *it = (struct open_file *)this;
+    struct open_file *it = file_of(this, USE_AFTER_FREE);
 
-    if (position == NULL)
+    if (it == NULL || position == NULL)
         ANSWER(EFI_INVALID_PARAMETER);
     if (it->list != NULL)
         ANSWER(EFI_UNSUPPORTED);
@@ -258,9 +327,11 @@ static EFI_STATUS EFIAPI get_position(EFI_FILE_PROTOCOL *this, uint64_t *positio
 static EFI_STATUS EFIAPI set_position(EFI_FILE_PROTOCOL *this, uint64_t position)
 {
     SERVICE("File.SetPosition", NUMBER(this), position);
-    struct open_file *it = (struct open_file *)this;
+    struct open_file *it = file_of(this, USE_AFTER_FREE);
     struct stat about;
 
+    if (it == NULL)
+        ANSWER(EFI_INVALID_PARAMETER);
     if (it->list != NULL) {
         if (position != 0)
             ANSWER(EFI_UNSUPPORTED);
@@ -298,13 +369,14 @@ static EFI_STATUS EFIAPI get_info(EFI_FILE_PROTOCOL *this, const EFI_GUID *kind,
                                   void *to)
 {
     SERVICE("File.GetInfo", NUMBER(this), NUMBER(kind), size == NULL ? 0 : *size, NUMBER(to));
-    struct open_file *it = (struct open_file *)this;
-    const char *name = last_part(it->path);
+    struct open_file *it = file_of(this, USE_AFTER_FREE);
+    const char *name;
     struct stat about;
     UINTN room;
 
-    if (kind == NULL || size == NULL || (to == NULL && *size != 0))
+    if (it == NULL || kind == NULL || size == NULL || (to == NULL && *size != 0))
         ANSWER(EFI_INVALID_PARAMETER);
+    name = last_part(it->path);
     if (guid_equal(kind, &file_info_guid))
         ANSWER(fstat(it->file, &about) == 0 ? write_info(&about, name, size, to)
                                             : folder_status());
@@ -371,11 +443,13 @@ static EFI_STATUS EFIAPI set_info(EFI_FILE_PROTOCOL *this, const EFI_GUID *kind,
                                   const void *from)
 {
     SERVICE("File.SetInfo", NUMBER(this), NUMBER(kind), size, NUMBER(from));
-    struct open_file *it = (struct open_file *)this;
+    struct open_file *it = file_of(this, USE_AFTER_FREE);
     const EFI_FILE_INFO *info = from;
     char above[FOLDER_PATH], path[FOLDER_PATH];
     EFI_STATUS status;
 
+    if (it == NULL)
+        ANSWER(EFI_INVALID_PARAMETER);
     if (kind == NULL || from == NULL || !guid_equal(kind, &file_info_guid))
         ANSWER(EFI_UNSUPPORTED);
     if (size < sizeof *info || !ends_within(info->FileName, size - sizeof *info))
@@ -394,8 +468,10 @@ static EFI_STATUS EFIAPI set_info(EFI_FILE_PROTOCOL *this, const EFI_GUID *kind,
 static EFI_STATUS EFIAPI flush_this(EFI_FILE_PROTOCOL *this)
 {
     SERVICE("File.Flush", NUMBER(this));
-    struct open_file *it = (struct open_file *)this;
+    struct open_file *it = file_of(this, USE_AFTER_FREE);
 
+    if (it == NULL)
+        ANSWER(EFI_INVALID_PARAMETER);
     ANSWER(it->list != NULL || fsync(it->file) == 0 ? EFI_SUCCESS : EFI_DEVICE_ERROR);
 }
 
@@ -421,14 +497,19 @@ EFI_STATUS folder_open(const struct folder *folder, const char *path, int flags,
         close(file);
         return EFI_ACCESS_DENIED;
     }
-    it = must(calloc(1, sizeof *it));
-    it->protocol = functions;
+    it = new_file(&functions);
+    if (it == NULL) {
+        close(file);
+        return EFI_OUT_OF_RESOURCES;
+    }
+    set_structure(it->shown, &functions, sizeof functions);
+    it->open = true;
+    it->position = 0;
     it->folder = folder;
     it->file = file;
     it->writes = (flags & O_RDWR) != 0;
-    if (S_ISDIR(about.st_mode))
-        it->list = must(fdopendir(file));
+    it->list = S_ISDIR(about.st_mode) ? must(fdopendir(file)) : NULL;
     strcpy(it->path, path);
-    *made = &it->protocol;
+    *made = it->shown;
     return EFI_SUCCESS;
 }

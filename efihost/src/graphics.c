@@ -14,9 +14,10 @@ static const EFI_GUID graphics_guid = {
 static const struct {
     uint32_t width, height;
 } sizes[] = {{800, 600}, {640, 480}, {1024, 768}, {1280, 720}, {1280, 1024}, {1920, 1080}};
-static EFI_GRAPHICS_OUTPUT_MODE_INFORMATION information;
+/* What the host goes by, and what images see of it. */
+static EFI_GRAPHICS_OUTPUT_MODE_INFORMATION information, *shown_information;
 static EFI_GRAPHICS_OUTPUT_PROTOCOL_MODE mode = {
-    LENGTH(sizes), 0, &information, sizeof information, 0, 0};
+    LENGTH(sizes), 0, NULL, sizeof information, 0, 0}, *shown;
 static uint32_t *pixels;
 static FILE *picture;
 
@@ -52,6 +53,8 @@ static void enter_mode(uint32_t number)
     mode.FrameBufferSize = (UINTN)information.HorizontalResolution *
                            information.VerticalResolution * sizeof *pixels;
     memset(pixels, 0, mode.FrameBufferSize);
+    set_structure(shown_information, &information, sizeof information);
+    set_structure(shown, &mode, sizeof mode);
 }
 
 static EFI_STATUS EFIAPI set_mode(EFI_GRAPHICS_OUTPUT_PROTOCOL *this, uint32_t number)
@@ -72,18 +75,36 @@ static bool on_screen(UINTN x, UINTN y, UINTN width, UINTN height)
     return x <= columns && y <= rows && width <= columns - x && height <= rows - y;
 }
 
+/* A rectangle of a buffer whose rows have this many pixels ends at an address that there may be. */
+static bool in_addresses(const uint32_t *buffer, const UINTN place[2], const UINTN size[2],
+                         UINTN row)
+{
+    UINTN last, bytes, end;
+
+    return !__builtin_add_overflow(place[1], size[1], &last) &&
+           !__builtin_mul_overflow(last, row, &last) &&
+           !__builtin_add_overflow(last, place[0], &last) &&
+           !__builtin_add_overflow(last, size[0], &last) &&
+           !__builtin_mul_overflow(last, sizeof *buffer, &bytes) &&
+           !__builtin_add_overflow(NUMBER(buffer), bytes, &end);
+}
+
 static EFI_STATUS EFIAPI transfer(EFI_GRAPHICS_OUTPUT_PROTOCOL *this, uint32_t *buffer,
                                   uint32_t operation, UINTN from_x, UINTN from_y, UINTN to_x,
                                   UINTN to_y, UINTN width, UINTN height, UINTN delta)
 {
     SERVICE("GraphicsOutput.Blt", NUMBER(this), NUMBER(buffer), operation, delta);
     UINTN row = delta == 0 ? width : delta / 4, screen_row = information.PixelsPerScanLine;
+    const UINTN from_place[2] = {from_x, from_y}, to_place[2] = {to_x, to_y};
+    const UINTN size[2] = {width, height};
 
     if (operation > BLT_VIDEO_TO_VIDEO || width == 0 || height == 0 ||
         (buffer == NULL && operation != BLT_VIDEO_TO_VIDEO) ||
         (operation != BLT_VIDEO_TO_BUFFER && !on_screen(to_x, to_y, width, height)) ||
         ((operation == BLT_VIDEO_TO_BUFFER || operation == BLT_VIDEO_TO_VIDEO) &&
-         !on_screen(from_x, from_y, width, height)))
+         !on_screen(from_x, from_y, width, height)) ||
+        (operation == BLT_VIDEO_TO_BUFFER && !in_addresses(buffer, to_place, size, row)) ||
+        (operation == BLT_BUFFER_TO_VIDEO && !in_addresses(buffer, from_place, size, row)))
         ANSWER(EFI_INVALID_PARAMETER);
     for (UINTN i = 0; i < height; i++) {
         UINTN y = operation == BLT_VIDEO_TO_VIDEO && to_y > from_y ? height - 1 - i : i;
@@ -106,13 +127,24 @@ static EFI_STATUS EFIAPI transfer(EFI_GRAPHICS_OUTPUT_PROTOCOL *this, uint32_t *
     ANSWER(EFI_SUCCESS);
 }
 
-static EFI_GRAPHICS_OUTPUT_PROTOCOL graphics = {query_mode, set_mode, transfer, &mode};
+static void install_graphics(void)
+{
+    EFI_GRAPHICS_OUTPUT_PROTOCOL functions = {query_mode, set_mode, transfer, NULL};
+    uint64_t out = NUMBER(host.table->ConsoleOutHandle);
+    void *graphics;
+
+    mode.Info = shown_information =
+        need_structure("GraphicsOutput.Mode.Info", &information, sizeof information);
+    functions.Mode = shown = need_structure("GraphicsOutput.Mode", &mode, sizeof mode);
+    graphics = need_structure("GraphicsOutput", &functions, sizeof functions);
+    enter_mode(0);
+    install_one(&out, &graphics_guid, 0, NUMBER(graphics));
+}
 
 /* The frame buffer lies below 4 GiB where the machine has nothing there. */
 void make_graphics(void)
 {
     int flags = MAP_PRIVATE | MAP_ANONYMOUS | MAP_NORESERVE;
-    uint64_t out = NUMBER(host.table->ConsoleOutHandle);
     size_t size = MAX_PIXELS * sizeof *pixels;
     void *at = MAP_FAILED;
 
@@ -130,8 +162,7 @@ void make_graphics(void)
         refuse("no memory for the screen");
     pixels = at;
     mode.FrameBufferBase = NUMBER(at);
-    enter_mode(0);
-    install_one(&out, &graphics_guid, 0, NUMBER(&graphics));
+    install_graphics();
 }
 
 void save_picture(void)

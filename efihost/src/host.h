@@ -246,7 +246,9 @@ EFI_STATUS host_free_pages(uint64_t at, uint64_t pages);
 EFI_STATUS host_pool(uint32_t type, uint64_t size, void **block);
 EFI_STATUS host_free_pool(void *block);
 EFI_STATUS host_adopt_block(uint64_t core_at, uint64_t size, void **block);
+void *try_machine_block(uint64_t size);
 void *machine_block(uint64_t size);
+void free_machine_block(void *block);
 void touch(const void *bytes, size_t count, bool write);
 void fill_memory_services(EFI_BOOT_SERVICES *boot);
 struct origin last_map_change(void);
@@ -258,6 +260,12 @@ void zone_look_at_freed(struct freed *freed);
 void zone_look_at_reuse(uint64_t at, uint64_t size);
 void zone_look_at_all(const char *when);
 void zone_shut_free(uint64_t address, uint64_t size);
+
+/* ---- structures.c: what images see of the firmware and only read ---- */
+void *make_structure(const char *name, const void *bytes, size_t size);
+void *need_structure(const char *name, const void *bytes, size_t size);
+void set_structure(void *at, const void *bytes, size_t size);
+const char *structure_at(uint64_t address, uint64_t *byte);
 
 /* ---- findings.c ---- */
 enum finding {
@@ -272,6 +280,7 @@ enum finding {
     STALE_KEY,
     AFTER_EXIT,
     DATA_EXECUTED,
+    FIRMWARE_WRITTEN,
     FINDING_KINDS,
 };
 void found(enum finding kind, const struct origin *origin, const char *format, ...)
@@ -304,12 +313,12 @@ struct section {
 };
 struct image {
     EFI_HANDLE handle;
-    EFI_LOADED_IMAGE_PROTOCOL *loaded;
-    EFI_DEVICE_PATH_PROTOCOL *path;
+    EFI_LOADED_IMAGE_PROTOCOL *loaded; /* which the image may write */
+    EFI_DEVICE_PATH_PROTOCOL *path, *file_path;
     uint64_t placed, base, pages, size, entry, calls;
     char name[64];
     uint16_t subsystem;
-    bool started, gone;
+    bool started, leaving, gone;
     bool nx_compatible; /* it says that memory of data types may be without execution */
     bool ran_data;      /* and a line has said that it executes some */
     sigjmp_buf back;
@@ -396,6 +405,7 @@ enum stopped {
     NOT_ALL_STOPPED,
 };
 bool is_live(uint64_t handle);
+bool has_interface(uint64_t handle, const void *guid, const void *interface);
 void add_handle(struct handles *handles, uint64_t handle);
 struct handles handles_with(const void *guid);
 size_t name_drivers(uint64_t controller, const EFI_HANDLE *first, uint64_t *list);
@@ -429,12 +439,12 @@ void open_keys(const char *file);
 
 /* ---- tables.c, runtime.c, variables.c ---- */
 void make_tables(void);
+void show_tables(void);
 void fill_small_services(EFI_BOOT_SERVICES *boot);
 void fill_runtime_services(EFI_RUNTIME_SERVICES *runtime);
 void fill_variable_services(EFI_RUNTIME_SERVICES *runtime);
 void open_variables(const char *file);
 void load_variables(void);
-void seal_table(EFI_TABLE_HEADER *header);
 
 /* ---- disks.c, folder.c, folder_files.c, graphics.c, picture.c, serial.c ---- */
 void make_disks(void);

@@ -145,17 +145,37 @@ EFI_STATUS host_adopt_block(uint64_t core_at, uint64_t size, void **block)
     return status;
 }
 
-/* A block of the host itself in the machine's memory, all zero. */
-void *machine_block(uint64_t size)
+/* A block of the host itself in the machine's memory, all zero, or NULL. */
+void *try_machine_block(uint64_t size)
 {
     struct call *call = host.call;
-    void *block;
+    void *block = NULL;
+    EFI_STATUS status;
 
     host.call = NULL;
-    if (host_pool(RAFKUDIN_BOOT_SERVICES_DATA, size, &block) != EFI_SUCCESS)
-        refuse("the machine has no memory for the host's own tables");
+    status = host_pool(RAFKUDIN_BOOT_SERVICES_DATA, size, &block);
     host.call = call;
-    return memset(block, 0, size);
+    return status == EFI_SUCCESS ? memset(block, 0, size) : NULL;
+}
+
+void *machine_block(uint64_t size)
+{
+    void *block = try_machine_block(size);
+
+    if (block == NULL)
+        refuse("the machine has no memory for the host's own tables");
+    return block;
+}
+
+void free_machine_block(void *block)
+{
+    struct call *call = host.call;
+
+    if (block == NULL)
+        return;
+    host.call = NULL;
+    host_free_pool(block);
+    host.call = call;
 }
 
 /* Reads, and writes with what it has, a byte of each page of a buffer before the system or the C

@@ -39,13 +39,12 @@ void each_held(void (*visit)(const struct held *held, void *context), void *cont
 }
 
 /* Whether an interface is open exclusively, so that no stop of a driver makes way for another. */
-static bool is_exclusive(uint64_t handle, const EFI_GUID *guid)
+static bool is_exclusive(uint64_t handle, const struct rafkudin_guid *guid)
 {
-    struct rafkudin_guid copy = core_guid(guid);
     struct rafkudin_item item;
 
     for (size_t i = 0;
-         RafkudinOpenItem(host.core, handle, &copy, i, &item) == RAFKUDIN_SUCCESS; i++)
+         RafkudinOpenItem(host.core, handle, guid, i, &item) == RAFKUDIN_SUCCESS; i++)
         if ((item.attributes & RAFKUDIN_EXCLUSIVE) != 0)
             return true;
     return false;
@@ -56,22 +55,22 @@ static EFI_STATUS EFIAPI OpenProtocol(EFI_HANDLE handle, const EFI_GUID *guid, v
                                       EFI_HANDLE agent, EFI_HANDLE controller, uint32_t attributes)
 {
     SERVICE("OpenProtocol", NUMBER(handle), NUMBER(guid), NUMBER(agent), attributes);
-    uint64_t number = NUMBER(handle), value = 0;
+    const struct rafkudin_guid copy = core_guid(guid);
+    struct held it = {NUMBER(handle), NUMBER(agent), NUMBER(controller), 0, {0}, attributes, {0}};
+    uint64_t value = 0;
     EFI_STATUS status;
 
     if (guid == NULL || (interface == NULL && attributes != RAFKUDIN_TEST_PROTOCOL))
         ANSWER(EFI_INVALID_PARAMETER);
-    status = core_open(number, guid, &value, NUMBER(agent), NUMBER(controller), attributes);
+    memcpy(&it.guid, &copy, sizeof it.guid);
+    status = core_open(it.handle, &copy, &value, it.agent, it.controller, attributes);
     if (status == EFI_ACCESS_DENIED && (attributes & RAFKUDIN_EXCLUSIVE) != 0 &&
-        !is_exclusive(number, guid) && stop_drivers_on(number, guid) == ALL_STOPPED)
-        status = core_open(number, guid, &value, NUMBER(agent), NUMBER(controller), attributes);
+        !is_exclusive(it.handle, &copy) && stop_drivers_on(it.handle, &copy) == ALL_STOPPED)
+        status = core_open(it.handle, &copy, &value, it.agent, it.controller, attributes);
     if (attributes != RAFKUDIN_TEST_PROTOCOL)
-        *interface = POINTER(path_from_core(guid, value));
-    if (status == EFI_SUCCESS && (attributes & HOLDING) != 0) {
-        struct held it = {number, NUMBER(agent), NUMBER(controller), 0, *guid, attributes, {0}};
-
+        *interface = POINTER(path_from_core(&copy, value));
+    if (status == EFI_SUCCESS && (attributes & HOLDING) != 0)
         hold(&it);
-    }
     ANSWER(status);
 }
 

@@ -7,14 +7,17 @@
 
 #define MAX_INTERFACES 64U
 
-/* Values that are handed to the core and back: those of device paths are other ones there. */
+/* Values that are handed to the core and back: those of device paths are other ones there. A GUID
+ * of an image's is copied, since a notification may free it. */
 EFI_STATUS install_one(uint64_t *handle, const void *guid, uint32_t kind, uint64_t value)
 {
+    struct held held = {0, 0, 0, value, {0}, 0, {0}};
     uint64_t core_value = path_to_core(guid, value);
-    EFI_STATUS status = core_install(handle, guid, kind, core_value);
-    struct held held = {*handle, 0, 0, value, {0}, 0, {0}};
+    EFI_STATUS status;
 
     memcpy(&held.guid, guid, sizeof held.guid);
+    status = core_install(handle, guid, kind, core_value);
+    held.handle = *handle;
     if (status == EFI_SUCCESS)
         hold(&held);
     else if (core_value != value)
@@ -26,21 +29,24 @@ EFI_STATUS install_one(uint64_t *handle, const void *guid, uint32_t kind, uint64
  * same, the drivers that were stopped are connected again. */
 EFI_STATUS uninstall_one(uint64_t handle, const void *guid, uint64_t value)
 {
-    uint64_t core_value = path_installed(handle, guid, value);
-    EFI_STATUS status = core_uninstall(handle, guid, core_value);
+    const struct rafkudin_guid copy = core_guid(guid);
+    uint64_t core_value = path_installed(handle, &copy, value);
+    EFI_STATUS status = core_uninstall(handle, &copy, core_value);
     enum stopped stopped = NONE_TO_STOP;
 
     if (status == EFI_ACCESS_DENIED)
-        stopped = stop_drivers_on(handle, guid);
-    if (stopped == ALL_STOPPED)
-        status = core_uninstall(handle, guid, core_value);
+        stopped = stop_drivers_on(handle, &copy);
+    if (stopped == ALL_STOPPED) {
+        core_value = path_installed(handle, &copy, value);
+        status = core_uninstall(handle, &copy, core_value);
+    }
     if (status != EFI_SUCCESS && stopped != NONE_TO_STOP)
         connect_controller(handle, NULL, NULL, true);
     if (status != EFI_SUCCESS)
         return status;
     if (core_value != value)
         path_drop(core_value);
-    let_go(handle, guid, 0, 0, true);
+    let_go(handle, &copy, 0, 0, true);
     return EFI_SUCCESS;
 }
 
@@ -85,19 +91,22 @@ static EFI_STATUS EFIAPI ReinstallProtocolInterface(EFI_HANDLE handle, const EFI
 {
     SERVICE("ReinstallProtocolInterface", NUMBER(handle), NUMBER(guid), NUMBER(old),
             NUMBER(interface));
+    const struct rafkudin_guid copy = core_guid(guid);
     uint64_t number = NUMBER(handle), core_old, core_new;
     enum stopped stopped = NONE_TO_STOP;
     EFI_STATUS status;
 
     if (guid == NULL)
         ANSWER(EFI_INVALID_PARAMETER);
-    core_old = path_installed(number, guid, NUMBER(old));
-    core_new = path_to_core(guid, NUMBER(interface));
-    status = core_reinstall(number, guid, core_old, core_new);
+    core_old = path_installed(number, &copy, NUMBER(old));
+    core_new = path_to_core(&copy, NUMBER(interface));
+    status = core_reinstall(number, &copy, core_old, core_new);
     if (status == EFI_ACCESS_DENIED)
-        stopped = stop_drivers_on(number, guid);
-    if (stopped == ALL_STOPPED)
-        status = core_reinstall(number, guid, core_old, core_new);
+        stopped = stop_drivers_on(number, &copy);
+    if (stopped == ALL_STOPPED) {
+        core_old = path_installed(number, &copy, NUMBER(old));
+        status = core_reinstall(number, &copy, core_old, core_new);
+    }
     if (status == EFI_SUCCESS && core_old != NUMBER(old))
         path_drop(core_old);
     if (status != EFI_SUCCESS && core_new != NUMBER(interface))
@@ -108,7 +117,7 @@ static EFI_STATUS EFIAPI ReinstallProtocolInterface(EFI_HANDLE handle, const EFI
 }
 
 struct listed {
-    const EFI_GUID *guid;
+    struct rafkudin_guid guid;
     uint64_t value;
 };
 
@@ -121,7 +130,7 @@ static bool read_list(__builtin_ms_va_list words, struct listed *list, size_t *c
     while ((guid = __builtin_va_arg(words, const EFI_GUID *)) != NULL) {
         if (*count == MAX_INTERFACES)
             return false;
-        list[*count].guid = guid;
+        list[*count].guid = core_guid(guid);
         list[(*count)++].value = __builtin_va_arg(words, uint64_t);
     }
     return true;
@@ -134,13 +143,14 @@ static EFI_STATUS install_list(EFI_HANDLE *handle, const struct listed *list, si
     EFI_STATUS status;
 
     for (size_t i = 0; i < count; i++) {
-        interfaces[i].guid = core_guid(list[i].guid);
-        interfaces[i].value = path_to_core(list[i].guid, list[i].value);
+        interfaces[i].guid = list[i].guid;
+        interfaces[i].value = path_to_core(&list[i].guid, list[i].value);
     }
     status = core_install_many(&number, interfaces, count);
     for (size_t i = 0; i < count; i++) {
-        struct held held = {number, 0, 0, list[i].value, *list[i].guid, 0, {0}};
+        struct held held = {number, 0, 0, list[i].value, {0}, 0, {0}};
 
+        memcpy(&held.guid, &list[i].guid, sizeof held.guid);
         if (status == EFI_SUCCESS)
             hold(&held);
         else if (interfaces[i].value != list[i].value)
@@ -178,7 +188,7 @@ static enum stopped stop_drivers_on_list(uint64_t handle, const struct listed *l
     enum stopped all = NONE_TO_STOP;
 
     for (size_t i = 0; i < count && all != NOT_ALL_STOPPED; i++) {
-        enum stopped here = stop_drivers_on(handle, list[i].guid);
+        enum stopped here = stop_drivers_on(handle, &list[i].guid);
 
         if (here != NONE_TO_STOP)
             all = here;
@@ -196,9 +206,9 @@ static EFI_STATUS uninstall_list(uint64_t handle, const struct listed *list, siz
     EFI_STATUS status;
 
     for (size_t i = 0; i < count; i++) {
-        interfaces[i].guid = core_guid(list[i].guid);
-        interfaces[i].value = path_installed(handle, list[i].guid, list[i].value);
-        are_there &= interface_of(handle, list[i].guid) == POINTER(list[i].value);
+        interfaces[i].guid = list[i].guid;
+        interfaces[i].value = path_installed(handle, &list[i].guid, list[i].value);
+        are_there &= interface_of(handle, &list[i].guid) == POINTER(list[i].value);
     }
     status = core_uninstall_many(handle, interfaces, count);
     if (status == EFI_INVALID_PARAMETER && are_there)
@@ -210,7 +220,7 @@ static EFI_STATUS uninstall_list(uint64_t handle, const struct listed *list, siz
     for (size_t i = 0; status == EFI_SUCCESS && i < count; i++) {
         if (interfaces[i].value != list[i].value)
             path_drop(interfaces[i].value);
-        let_go(handle, list[i].guid, 0, 0, true);
+        let_go(handle, &list[i].guid, 0, 0, true);
     }
     return status;
 }
@@ -310,24 +320,28 @@ static EFI_STATUS EFIAPI LocateProtocol(const EFI_GUID *guid, void *key, void **
     ANSWER(status);
 }
 
-/* The GUIDs that are handed out by address, which stay for good. */
-static EFI_GUID *lasting_guid(const struct rafkudin_guid *guid)
+/* The GUIDs that are handed out by address, which stay for good; NULL where there is no memory. */
+static void *lasting_guid(const struct rafkudin_guid *guid)
 {
     static struct lasting {
         struct rafkudin_guid guid;
+        void *shown;
         struct lasting *next;
     } *rows[256];
     struct lasting **row = &rows[guid->bytes[0]], *it = *row;
+    void *shown;
 
     while (it != NULL && !guid_equal(&it->guid, guid))
         it = it->next;
-    if (it == NULL) {
-        it = must(malloc(sizeof *it));
-        it->guid = *guid;
-        it->next = *row;
-        *row = it;
-    }
-    return (EFI_GUID *)(void *)&it->guid;
+    if (it != NULL)
+        return it->shown;
+    shown = make_structure("a GUID of ProtocolsPerHandle", guid, sizeof *guid);
+    if (shown == NULL)
+        return NULL;
+    it = must(malloc(sizeof *it));
+    *it = (struct lasting){*guid, shown, *row};
+    *row = it;
+    return shown;
 }
 
 static EFI_STATUS EFIAPI ProtocolsPerHandle(EFI_HANDLE handle, EFI_GUID ***guids, UINTN *count)
@@ -345,8 +359,15 @@ static EFI_STATUS EFIAPI ProtocolsPerHandle(EFI_HANDLE handle, EFI_GUID ***guids
         status = host_pool(RAFKUDIN_BOOT_SERVICES_DATA, 8 * found_guids, &block);
     if (status != EFI_SUCCESS)
         ANSWER(status);
-    for (uint64_t i = 0; i < found_guids; i++)
-        ((EFI_GUID **)block)[i] = lasting_guid(&list[i]);
+    for (uint64_t i = 0; i < found_guids; i++) {
+        EFI_GUID *guid = lasting_guid(&list[i]);
+
+        ((EFI_GUID **)block)[i] = guid;
+        if (guid != NULL)
+            continue;
+        host_free_pool(block);
+        ANSWER(EFI_OUT_OF_RESOURCES);
+    }
     *guids = block;
     *count = found_guids;
     ANSWER(EFI_SUCCESS);

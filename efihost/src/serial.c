@@ -9,33 +9,38 @@ static const EFI_GUID serial_guid = {
 static const uint8_t serial_path[] = {2,    1, 12, 0, 0xd0, 0x41, 1, 5,
                                       0,    0, 0,  0, 0x7f, 0xff, 4, 0};
 static EFI_SERIAL_IO_MODE mode = {0, 1000000, 115200, 1, 8, 1, 1};
+static EFI_SERIAL_IO_MODE *shown; /* what images see of it */
 static FILE *output, *input;
 
 static EFI_STATUS EFIAPI reset(EFI_SERIAL_IO_PROTOCOL *this)
 {
-    (void)this;
-    return EFI_SUCCESS;
+    SERVICE("SerialIo.Reset", NUMBER(this));
+    ANSWER(EFI_SUCCESS);
 }
 
 static EFI_STATUS EFIAPI set_attributes(EFI_SERIAL_IO_PROTOCOL *this, uint64_t rate,
                                         uint32_t depth, uint32_t timeout, uint32_t parity,
                                         uint8_t data_bits, uint32_t stop_bits)
 {
-    (void)this;
+    SERVICE("SerialIo.SetAttributes", NUMBER(this), rate, depth, timeout);
+
     mode.BaudRate = rate == 0 ? 115200 : rate;
     mode.ReceiveFifoDepth = depth == 0 ? 1 : depth;
     mode.Timeout = timeout == 0 ? 1000000 : timeout;
     mode.Parity = parity == 0 ? 1 : parity;
     mode.DataBits = data_bits == 0 ? 8 : data_bits;
     mode.StopBits = stop_bits == 0 ? 1 : stop_bits;
-    return EFI_SUCCESS;
+    set_structure(shown, &mode, sizeof mode);
+    ANSWER(EFI_SUCCESS);
 }
 
 static EFI_STATUS EFIAPI set_control(EFI_SERIAL_IO_PROTOCOL *this, uint32_t control)
 {
-    (void)this;
+    SERVICE("SerialIo.SetControl", NUMBER(this), control);
+
     mode.ControlMask = control;
-    return EFI_SUCCESS;
+    set_structure(shown, &mode, sizeof mode);
+    ANSWER(EFI_SUCCESS);
 }
 
 /* Whether there is input left. */
@@ -73,23 +78,24 @@ static EFI_STATUS EFIAPI read_bytes(EFI_SERIAL_IO_PROTOCOL *this, UINTN *size, v
 {
     SERVICE("SerialIo.Read", NUMBER(this), size == NULL ? 0 : *size, NUMBER(bytes));
     uint8_t *to = bytes;
-    UINTN asked;
+    UINTN asked, count = 0;
 
     if (size == NULL || bytes == NULL)
         ANSWER(EFI_INVALID_PARAMETER);
     asked = *size;
-    for (*size = 0; *size < asked && has_input(); ++*size)
-        to[*size] = (uint8_t)fgetc(input);
-    ANSWER(*size == asked ? EFI_SUCCESS : EFI_TIMEOUT);
+    while (count < asked && has_input())
+        to[count++] = (uint8_t)fgetc(input);
+    *size = count;
+    ANSWER(count == asked ? EFI_SUCCESS : EFI_TIMEOUT);
 }
-
-static EFI_SERIAL_IO_PROTOCOL serial = {0x10000,     reset,       set_attributes, set_control,
-                                        get_control, write_bytes, read_bytes,     &mode};
 
 /* The names are those of the files, or null. */
 void make_serial(const char *to, const char *from)
 {
+    EFI_SERIAL_IO_PROTOCOL functions = {0x10000,     reset,       set_attributes, set_control,
+                                        get_control, write_bytes, read_bytes,     NULL};
     uint64_t handle = 0;
+    void *serial, *path;
 
     if (to == NULL && from == NULL)
         return;
@@ -99,6 +105,9 @@ void make_serial(const char *to, const char *from)
     input = from == NULL ? NULL : fopen(from, "r");
     if (from != NULL && input == NULL)
         refuse("cannot read %s", from);
-    install_one(&handle, &serial_guid, 0, NUMBER(&serial));
-    install_one(&handle, &device_path_guid, 0, NUMBER(serial_path));
+    functions.Mode = shown = need_structure("SerialIo.Mode", &mode, sizeof mode);
+    serial = need_structure("SerialIo", &functions, sizeof functions);
+    path = need_structure("the serial port's device path", serial_path, sizeof serial_path);
+    install_one(&handle, &serial_guid, 0, NUMBER(serial));
+    install_one(&handle, &device_path_guid, 0, NUMBER(path));
 }

@@ -10,36 +10,49 @@
 #define REVISION (2U << 16 | 100U)
 #define MAX_TABLES 64U
 
+/* Images may write the system's tables: the host has what it goes by here. */
+static EFI_CONFIGURATION_TABLE tables[MAX_TABLES], *shown_tables;
+static UINTN table_count;
+
 /* Sets a table's checksum. */
-void seal_table(EFI_TABLE_HEADER *header)
+static void seal_table(EFI_TABLE_HEADER *header, uint32_t size)
 {
+    header->HeaderSize = size;
     header->CRC32 = 0;
-    header->CRC32 = crc32_of(header, header->HeaderSize);
+    header->CRC32 = crc32_of(header, size);
+}
+
+void show_tables(void)
+{
+    EFI_SYSTEM_TABLE *system = host.table;
+
+    memcpy(shown_tables, tables, sizeof tables);
+    system->ConfigurationTable = shown_tables;
+    system->NumberOfTableEntries = table_count;
+    seal_table(&system->Hdr, sizeof *system);
 }
 
 static EFI_STATUS EFIAPI InstallConfigurationTable(const EFI_GUID *guid, void *table)
 {
     SERVICE("InstallConfigurationTable", NUMBER(guid), NUMBER(table));
-    EFI_SYSTEM_TABLE *system = host.table;
-    EFI_CONFIGURATION_TABLE *list = system->ConfigurationTable;
     UINTN i = 0;
 
     if (guid == NULL)
         ANSWER(EFI_INVALID_PARAMETER);
-    while (i < system->NumberOfTableEntries && !guid_equal(&list[i].VendorGuid, guid))
+    while (i < table_count && !guid_equal(&tables[i].VendorGuid, guid))
         i++;
-    if (i == system->NumberOfTableEntries) {
+    if (i == table_count) {
         if (table == NULL)
             ANSWER(EFI_NOT_FOUND);
         if (i == MAX_TABLES)
             ANSWER(EFI_OUT_OF_RESOURCES);
-        system->NumberOfTableEntries++;
-        list[i].VendorGuid = *guid;
+        table_count++;
+        memcpy(&tables[i].VendorGuid, guid, sizeof *guid);
     }
-    list[i].VendorTable = table;
+    tables[i].VendorTable = table;
     if (table == NULL)
-        list[i] = list[--system->NumberOfTableEntries];
-    seal_table(&system->Hdr);
+        tables[i] = tables[--table_count];
+    show_tables();
     ANSWER(EFI_SUCCESS);
 }
 
@@ -145,13 +158,13 @@ void make_tables(void)
     host.table = system;
     host.boot = boot;
     host.runtime = runtime;
+    shown_tables = (void *)(lasting + 3 * PAGE);
     widen(vendor, "efihost over Rafkudin");
     *system = (EFI_SYSTEM_TABLE){.Hdr = {SYSTEM_SIGNATURE, REVISION, sizeof *system, 0, 0},
                                  .FirmwareVendor = vendor,
                                  .FirmwareRevision = 0x10000,
                                  .RuntimeServices = runtime,
-                                 .BootServices = boot,
-                                 .ConfigurationTable = (void *)(lasting + 3 * PAGE)};
+                                 .BootServices = boot};
     boot->Hdr = (EFI_TABLE_HEADER){BOOT_SIGNATURE, REVISION, sizeof *boot, 0, 0};
     runtime->Hdr = (EFI_TABLE_HEADER){RUNTIME_SIGNATURE, REVISION, sizeof *runtime, 0, 0};
     fill_memory_services(boot);
@@ -161,7 +174,7 @@ void make_tables(void)
     fill_small_services(boot);
     fill_runtime_services(runtime);
     fill_variable_services(runtime);
-    seal_table(&boot->Hdr);
-    seal_table(&runtime->Hdr);
-    seal_table(&system->Hdr);
+    seal_table(&boot->Hdr, sizeof *boot);
+    seal_table(&runtime->Hdr, sizeof *runtime);
+    show_tables();
 }
