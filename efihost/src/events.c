@@ -1,5 +1,8 @@
 /* Events, timers and task priority levels. Where keys come from a script the time that would pass
- * in waiting is skipped; else waiting sleeps until a key or the next timer. */
+ * in waiting is skipped; else waiting sleeps until a key or the next timer.
+ *
+ * To an image an event is a number that is never used again. Each notification may close any event
+ * and make others: no pointer to an event is kept across one. */
 #include "host.h"
 
 #include <poll.h>
@@ -11,6 +14,7 @@
 #define MOST_SKIPPED (UINT64_MAX / 4) /* some 14,000 years */
 #define NEVER (UINT64_MAX / 2)        /* a time that doesn't come */
 #define IN_VAIN 3000U /* waits for a key that are made after the last one */
+#define MARK 0x4556454e00000000ULL /* an event's number is above it, and no address can be */
 
 struct event {
     uint32_t type;
@@ -26,6 +30,10 @@ struct event {
 
 static struct event *events;
 static uint64_t skipped, event_numbers;
+static struct {
+    uint64_t number;
+    struct origin by;
+} closed[64]; /* of each remainder of numbers the last, for reports */
 static const EFI_GUID exit_group = {
     0x27abf055, 0xb1b8, 0x4c26, {0x80, 0x48, 0x74, 0x8f, 0x37, 0xba, 0xa2, 0xdf}};
 static const EFI_GUID before_exit_group = {
@@ -50,12 +58,41 @@ static uint64_t due_after(uint64_t now, uint64_t time)
     return time < NEVER - now ? now + time : NEVER;
 }
 
-static struct event *event_of(EFI_EVENT event)
+static EFI_EVENT handle_of(const struct event *event)
+{
+    return POINTER(MARK + event->number);
+}
+
+static struct event *live_event(EFI_EVENT event)
 {
     for (struct event *it = events; it != NULL; it = it->next)
-        if (it == event)
+        if (handle_of(it) == event)
             return it;
     return NULL;
+}
+
+/* Firmware uses freed memory where an event is closed. What never was an event it may refuse. */
+static void found_closed(enum finding kind, EFI_EVENT event)
+{
+    uint64_t number = NUMBER(event) - MARK;
+    const size_t place = number % LENGTH(closed);
+    struct origin origin;
+
+    if (!host.checks || number == 0 || number > event_numbers)
+        return;
+    origin = origin_now();
+    found(kind, &origin, "%s of event %lu, which %s closed", host.call->name, number,
+          closed[place].number == number ? origin_text(&closed[place].by) : "an image");
+}
+
+/* The live event that an image hands to a service, or NULL. */
+static struct event *event_of(EFI_EVENT event)
+{
+    struct event *it = live_event(event);
+
+    if (it == NULL)
+        found_closed(USE_AFTER_FREE, event);
+    return it;
 }
 
 uint64_t event_number(EFI_EVENT event)
@@ -103,7 +140,7 @@ void dispatch(void)
         best->pending = false;
         host.tpl = best->tpl;
         if (best->notify != NULL)
-            best->notify(best, best->context);
+            best->notify(handle_of(best), best->context);
         host.tpl = before;
     }
 }
@@ -178,7 +215,7 @@ EFI_EVENT make_key_event(void)
 
     make_event(0, TPL_NOTIFY, NULL, NULL, NULL, &event);
     event->key = true;
-    return event;
+    return handle_of(event);
 }
 
 size_t events_of(const struct image *image)
@@ -215,8 +252,11 @@ void signal_exit_boot_services(void)
     call_group(&exit_group, EVT_SIGNAL_EXIT_BOOT_SERVICES);
 }
 
+/* The event's function may close it: that is then no event. */
 static EFI_STATUS check_event(struct event *event)
 {
+    const EFI_EVENT handle = handle_of(event);
+
     if (event->key)
         return key_is_ready() ? EFI_SUCCESS : EFI_NOT_READY;
     if ((event->type & EVT_NOTIFY_SIGNAL) != 0)
@@ -226,9 +266,12 @@ static EFI_STATUS check_event(struct event *event)
 
         if (event->tpl > host.tpl)
             host.tpl = event->tpl;
-        event->notify(event, event->context);
+        event->notify(handle, event->context);
         host.tpl = before;
+        event = live_event(handle);
     }
+    if (event == NULL)
+        return EFI_INVALID_PARAMETER;
     if (!event->signaled)
         return EFI_NOT_READY;
     event->signaled = false;
@@ -272,7 +315,7 @@ static EFI_STATUS EFIAPI CreateEvent(uint32_t type, EFI_TPL tpl, EFI_EVENT_NOTIF
         ANSWER(EFI_INVALID_PARAMETER);
     status = make_event(type, tpl, notify, context, NULL, &made);
     if (status == EFI_SUCCESS)
-        *event = made;
+        *event = handle_of(made);
     ANSWER(status);
 }
 
@@ -288,7 +331,7 @@ static EFI_STATUS EFIAPI CreateEventEx(uint32_t type, EFI_TPL tpl, EFI_EVENT_NOT
         ANSWER(EFI_INVALID_PARAMETER);
     status = make_event(type, tpl, notify, (void *)(uintptr_t)context, group, &made);
     if (status == EFI_SUCCESS)
-        *event = made;
+        *event = handle_of(made);
     ANSWER(status);
 }
 
@@ -312,13 +355,17 @@ static EFI_STATUS EFIAPI CheckEvent(EFI_EVENT event)
     SERVICE("CheckEvent", NUMBER(event));
     struct event *it;
     EFI_STATUS status;
+    bool key;
 
     dispatch();
     it = event_of(event);
-    status = it == NULL ? EFI_INVALID_PARAMETER : check_event(it);
+    if (it == NULL)
+        ANSWER(EFI_INVALID_PARAMETER);
+    key = it->key;
+    status = check_event(it);
     unready = status == EFI_NOT_READY ? unready + 1 : 0;
     if (unready > 100)
-        idle(it->key);
+        idle(key);
     ANSWER(status);
 }
 
@@ -336,13 +383,14 @@ static EFI_STATUS EFIAPI WaitForEvent(UINTN count, EFI_EVENT *list, UINTN *index
         dispatch();
         for (UINTN i = 0; i < count; i++) {
             struct event *it = event_of(list[i]);
-            EFI_STATUS status = it == NULL ? EFI_INVALID_PARAMETER : check_event(it);
+            EFI_STATUS status;
 
+            wants_key |= it != NULL && (it->key || it->notify != NULL);
+            status = it == NULL ? EFI_INVALID_PARAMETER : check_event(it);
             if (status != EFI_NOT_READY) {
                 *index = i;
                 ANSWER(status);
             }
-            wants_key |= it->key || it->notify != NULL;
         }
         idle(wants_key);
     }
@@ -366,16 +414,19 @@ static EFI_STATUS EFIAPI SignalEvent(EFI_EVENT event)
 static EFI_STATUS EFIAPI CloseEvent(EFI_EVENT event)
 {
     SERVICE("CloseEvent", NUMBER(event));
+    struct event *gone = live_event(event), **link = &events;
 
-    for (struct event **link = &events; *link != NULL; link = &(*link)->next)
-        if (*link == event && !(*link)->key) {
-            struct event *gone = *link;
-
-            *link = gone->next;
-            free(gone);
-            ANSWER(EFI_SUCCESS);
-        }
-    ANSWER(EFI_INVALID_PARAMETER);
+    if (gone == NULL)
+        found_closed(FREE_NOT_LIVE, event);
+    if (gone == NULL || gone->key)
+        ANSWER(EFI_INVALID_PARAMETER);
+    while (*link != gone)
+        link = &(*link)->next;
+    *link = gone->next;
+    closed[gone->number % LENGTH(closed)].number = gone->number;
+    closed[gone->number % LENGTH(closed)].by = origin_without_trail();
+    free(gone);
+    ANSWER(EFI_SUCCESS);
 }
 
 void fill_event_services(EFI_BOOT_SERVICES *boot)
