@@ -15,6 +15,12 @@ bool is_live(uint64_t handle)
     return RafkudinInterface(host.core, handle, 0, &first) == RAFKUDIN_SUCCESS;
 }
 
+/* Whether a handle still has an interface, which the image that is called next may have removed. */
+bool has_interface(uint64_t handle, const void *guid, const void *interface)
+{
+    return interface != NULL && interface_of(handle, guid) == interface;
+}
+
 /* Adds a handle to a list, unless it is there. */
 void add_handle(struct handles *handles, uint64_t handle)
 {
@@ -72,14 +78,16 @@ static struct drivers find_drivers(void)
 }
 
 /* Takes a driver's turn: whether it supports the controller, and so was started; *done, whether it
- * could be. One that is gone by now, or has another interface, supports nothing. */
+ * could be. One that is gone by now, or has another interface, supports nothing; its Supported may
+ * have uninstalled it. */
 static bool take_turn(const struct rafkudin_binding *driver, EFI_HANDLE controller,
                       EFI_DEVICE_PATH_PROTOCOL *rest, bool *done)
 {
     EFI_DRIVER_BINDING_PROTOCOL *binding = POINTER(driver->driver);
 
-    if (interface_of(driver->handle, &driver_binding_guid) != binding ||
-        EFI_ERROR(binding->Supported(binding, controller, rest)))
+    if (!has_interface(driver->handle, &driver_binding_guid, binding) ||
+        EFI_ERROR(binding->Supported(binding, controller, rest)) ||
+        !has_interface(driver->handle, &driver_binding_guid, binding))
         return false;
     if (!EFI_ERROR(binding->Start(binding, controller, rest)))
         *done = true;

@@ -8,6 +8,7 @@
 #include "host.h"
 
 #include <stdlib.h>
+#include <string.h>
 
 struct stops {
     struct rafkudin_stop *list;
@@ -94,21 +95,45 @@ static EFI_STATUS find_children(struct rafkudin_stop stop, struct handles *child
     return status;
 }
 
+/* Calls a driver's Stop for these children or for the controller itself; it may be gone by now. */
+static EFI_STATUS stop_once(struct rafkudin_stop stop, UINTN count, EFI_HANDLE *children)
+{
+    EFI_DRIVER_BINDING_PROTOCOL *binding = interface_of(stop.agent, &driver_binding_guid);
+
+    if (binding == NULL)
+        return EFI_DEVICE_ERROR;
+    return binding->Stop(binding, HANDLE(stop.controller), count, children);
+}
+
+/* The same for all children, whose handles the driver gets in a block of the machine's. */
+static EFI_STATUS stop_children(struct rafkudin_stop stop, const struct handles *children)
+{
+    const size_t size = children->count * sizeof *children->list;
+    EFI_HANDLE *list = try_machine_block(size);
+    EFI_STATUS status;
+
+    if (list == NULL)
+        return EFI_OUT_OF_RESOURCES;
+    memcpy(list, children->list, size);
+    status = stop_once(stop, children->count, list);
+    free_machine_block(list);
+    return status;
+}
+
 /* Calls a driver's Stop: for its children first, all or the one that is named, and then, where it
  * has no others, for the controller itself. */
-static EFI_STATUS call_stop(EFI_DRIVER_BINDING_PROTOCOL *binding, uint64_t controller,
-                            uint64_t child, const struct handles *children)
+static EFI_STATUS call_stop(struct rafkudin_stop stop, uint64_t child,
+                            const struct handles *children)
 {
     EFI_HANDLE one = HANDLE(child);
     EFI_STATUS status = EFI_SUCCESS;
 
     if (child != 0)
-        status = binding->Stop(binding, HANDLE(controller), 1, &one);
+        status = stop_once(stop, 1, &one);
     else if (children->count > 0)
-        status = binding->Stop(binding, HANDLE(controller), children->count,
-                               (EFI_HANDLE *)(void *)children->list);
+        status = stop_children(stop, children);
     if (!EFI_ERROR(status) && (child == 0 || children->count == 1))
-        status = binding->Stop(binding, HANDLE(controller), 0, NULL);
+        status = stop_once(stop, 0, NULL);
     return status;
 }
 
@@ -116,7 +141,6 @@ static EFI_STATUS call_stop(EFI_DRIVER_BINDING_PROTOCOL *binding, uint64_t contr
  * can't be stopped; an agent without a driver binding never can. */
 static EFI_STATUS carry_out(struct rafkudin_stop stop, uint64_t child)
 {
-    EFI_DRIVER_BINDING_PROTOCOL *binding = interface_of(stop.agent, &driver_binding_guid);
     struct handles children = {NULL, 0, 0};
     EFI_STATUS status = find_children(stop, &children);
     bool has_child = child == 0;
@@ -125,8 +149,7 @@ static EFI_STATUS carry_out(struct rafkudin_stop stop, uint64_t child)
         has_child |= children.list[i] == child;
     if (status == EFI_SUCCESS && !has_child)
         status = EFI_NOT_FOUND;
-    if (status == EFI_SUCCESS &&
-        (binding == NULL || EFI_ERROR(call_stop(binding, stop.controller, child, &children))))
+    if (status == EFI_SUCCESS && EFI_ERROR(call_stop(stop, child, &children)))
         status = EFI_DEVICE_ERROR;
     free(children.list);
     return status;
