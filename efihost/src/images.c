@@ -69,7 +69,7 @@ static void fill_loaded_image(struct image *image, EFI_HANDLE parent, EFI_HANDLE
     loaded->ParentHandle = parent;
     loaded->SystemTable = host.table;
     loaded->DeviceHandle = device;
-    loaded->FilePath = copy_path(rest);
+    loaded->FilePath = image->file_path = copy_path(rest);
     loaded->ImageBase = POINTER(image->base);
     loaded->ImageSize = image->size;
     loaded->ImageCodeType = code[image->subsystem - APPLICATION];
@@ -112,7 +112,7 @@ EFI_STATUS load_image(EFI_HANDLE parent, const void *path, const uint8_t *data, 
     image->path = copy_path(path);
     fill_loaded_image(image, parent, HANDLE(device),
                       path == NULL ? NULL : (const uint8_t *)path + matched);
-    name_image(image, file, image->loaded->FilePath);
+    name_image(image, file, image->file_path);
     apply_rights(image);
     status = install_image(image);
     image->next = images;
@@ -126,19 +126,23 @@ EFI_STATUS load_image(EFI_HANDLE parent, const void *path, const uint8_t *data, 
     return status;
 }
 
-/* Takes an image out of the machine, with what the host made for it. */
+/* Takes an image out of the machine, with what the host made for it. A driver that is stopped for
+ * that may ask for the same again. */
 EFI_STATUS unload_image(struct image *image)
 {
     struct call *call = host.call;
 
+    if (image->leaving)
+        return EFI_INVALID_PARAMETER;
+    image->leaving = true;
     look_for_leaks(image, "is unloaded");
     host.call = NULL;
     if (image->packages != NULL)
         uninstall_one(NUMBER(image->handle), &package_list_guid, NUMBER(image->packages));
     uninstall_one(NUMBER(image->handle), &loaded_image_path_guid, NUMBER(image->path));
     uninstall_one(NUMBER(image->handle), &loaded_image_guid, NUMBER(image->loaded));
-    if (image->loaded->FilePath != NULL)
-        host_free_pool(image->loaded->FilePath);
+    if (image->file_path != NULL)
+        host_free_pool(image->file_path);
     host_free_pool(image->loaded);
     if (image->path != NULL)
         host_free_pool(image->path);
@@ -186,7 +190,7 @@ EFI_STATUS EFIAPI LoadImage(BOOLEAN policy, EFI_HANDLE parent, EFI_DEVICE_PATH_P
         ANSWER(EFI_NOT_FOUND);
     status = load_image(parent, path, bytes, length, NULL, &image);
     if (data == NULL)
-        free((void *)(uintptr_t)bytes);
+        free_machine_block((void *)(uintptr_t)bytes);
     if (status == EFI_SUCCESS)
         *handle = image->handle;
     ANSWER(status);

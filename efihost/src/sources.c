@@ -1,8 +1,7 @@
 /* Where the bytes of an image come from that LoadImage is asked for by a path: a file of a simple
- * file system, or a device that loads by itself. */
+ * file system, or a device that loads by itself. Both may be an image's own code, which gets a
+ * block of the machine's memory and says how much of it it filled. */
 #include "host.h"
-
-#include <stdlib.h>
 
 #define MAX_NAME_LENGTH 1024U
 
@@ -31,21 +30,32 @@ static bool file_name(const uint8_t *node, CHAR16 *name)
     return true;
 }
 
+/* The bytes, or NULL where they are not to be had: code that says that it wrote more than the block
+ * has is not believed. */
+static uint8_t *bytes_read(uint8_t *bytes, EFI_STATUS status, uint64_t length, uint64_t room)
+{
+    if (bytes != NULL && status == EFI_SUCCESS && length <= room)
+        return bytes;
+    free_machine_block(bytes);
+    return NULL;
+}
+
 /* Reads a whole file; the bytes are the caller's to free, or NULL. */
 static uint8_t *read_whole(EFI_FILE_PROTOCOL *file, uint64_t *length)
 {
     uint64_t end = 0;
+    EFI_STATUS status;
     uint8_t *bytes;
 
     if (file->SetPosition(file, UINT64_MAX) != EFI_SUCCESS ||
         file->GetPosition(file, &end) != EFI_SUCCESS || file->SetPosition(file, 0) != EFI_SUCCESS)
         return NULL;
-    bytes = malloc(end + 1);
+    bytes = try_machine_block(end);
+    if (bytes == NULL)
+        return NULL;
     *length = end;
-    if (bytes != NULL && file->Read(file, length, bytes) == EFI_SUCCESS)
-        return bytes;
-    free(bytes);
-    return NULL;
+    status = file->Read(file, length, bytes);
+    return bytes_read(bytes, status, *length, end);
 }
 
 static uint8_t *from_file_system(const void *path, uint64_t *length)
@@ -53,7 +63,7 @@ static uint8_t *from_file_system(const void *path, uint64_t *length)
     uint64_t device = 0, matched = 0;
     CHAR16 name[MAX_NAME_LENGTH];
     EFI_SIMPLE_FILE_SYSTEM_PROTOCOL *volume;
-    EFI_FILE_PROTOCOL *root, *file;
+    EFI_FILE_PROTOCOL *root = NULL, *file = NULL;
     EFI_STATUS status;
     uint8_t *bytes;
 
@@ -75,9 +85,10 @@ static uint8_t *from_file_system(const void *path, uint64_t *length)
 /* The device says first how many bytes it has, and then gives them. */
 static uint8_t *from_device(const EFI_GUID *guid, const void *path, bool policy, uint64_t *length)
 {
-    uint64_t device = 0, matched = 0;
+    uint64_t device = 0, matched = 0, size;
     EFI_LOAD_FILE_PROTOCOL *loader;
     EFI_DEVICE_PATH_PROTOCOL *rest;
+    EFI_STATUS status;
     uint8_t *bytes;
 
     *length = 0;
@@ -88,15 +99,16 @@ static uint8_t *from_device(const EFI_GUID *guid, const void *path, bool policy,
     if (loader == NULL ||
         loader->LoadFile(loader, rest, policy, length, NULL) != EFI_BUFFER_TOO_SMALL)
         return NULL;
-    bytes = malloc(*length + 1);
-    if (bytes != NULL && loader->LoadFile(loader, rest, policy, length, bytes) == EFI_SUCCESS)
-        return bytes;
-    free(bytes);
-    return NULL;
+    size = *length;
+    bytes = try_machine_block(size);
+    if (bytes == NULL || !has_interface(device, guid, loader))
+        return bytes_read(bytes, EFI_NOT_FOUND, 0, 0);
+    status = loader->LoadFile(loader, rest, policy, length, bytes);
+    return bytes_read(bytes, status, *length, size);
 }
 
-/* The bytes of the image at a path, which are the caller's to free, or NULL. A boot option (with
- * the policy true) is for no LoadFile2. */
+/* The bytes of the image at a path, a block of the machine's that the caller frees, or NULL. A boot
+ * option (with the policy true) is for no LoadFile2. */
 uint8_t *read_by_path(const void *path, bool policy, uint64_t *length)
 {
     uint8_t *bytes = from_file_system(path, length);
