@@ -10,6 +10,9 @@
 #include <string.h>
 #include <ucontext.h>
 #include <unistd.h>
+#ifdef __SANITIZE_ADDRESS__
+#include <sanitizer/common_interface_defs.h>
+#endif
 
 #define STACK_PAGES (128U + SERVICE_STACK / PAGE)
 
@@ -150,6 +153,9 @@ static void run_application(void)
 
 static void run_machine(void)
 {
+#ifdef __SANITIZE_ADDRESS__
+    __sanitizer_finish_switch_fiber(NULL, NULL, NULL);
+#endif
     start_drivers();
     run_application();
 }
@@ -170,6 +176,9 @@ static void run_on_stack(void)
     machine_context.uc_stack.ss_size = STACK_PAGES * PAGE;
     machine_context.uc_link = &home;
     makecontext(&machine_context, run_machine, 0);
+#ifdef __SANITIZE_ADDRESS__
+    __sanitizer_start_switch_fiber(NULL, POINTER(host.stack), STACK_PAGES * PAGE);
+#endif
     swapcontext(&home, &machine_context);
 }
 

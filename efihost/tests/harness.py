@@ -1,7 +1,9 @@
 """What the tests of efihost share. A file of tests calls `finish` with its checks.
 
-Each is called with [--program PROGRAM] EFIHOST. PROGRAM is the proved program, which replays the traces. The last line
-is 'N passed, M failed', and the status is 1 if one failed. What can't be tried on this machine is skipped, with a line.
+Each is called with [--program PROGRAM] [--sanitized | --valgrind] EFIHOST. PROGRAM is the proved program, which replays
+the traces. The last line is 'N passed, M failed', and the status is 1 if one failed. What can't be tried on this machine
+is skipped, with a line. With --sanitized, EFIHOST is built with sanitizers, with --valgrind it runs in valgrind: a report
+of theirs is a failure, and the checks of LEFT_OUT are skipped.
 """
 import argparse
 import ctypes
@@ -17,9 +19,13 @@ HERE = os.path.dirname(os.path.realpath(__file__))
 counts = {"passed": 0, "failed": 0}
 words = argparse.ArgumentParser()
 words.add_argument("--program", default="")
+words.add_argument("--sanitized", action="store_true")
+words.add_argument("--valgrind", action="store_true")
 words.add_argument("efihost")
 words = words.parse_args()
 EFIHOST = os.path.realpath(words.efihost)
+REPORTED = 99  # the status of a run with a report of a sanitizer or of valgrind
+SANITIZED = f"exitcode={REPORTED}:detect_leaks=0:handle_segv=0:use_sigaltstack=0:symbolize=0"
 PROGRAM = words.program
 has_program = bool(PROGRAM) and os.path.exists(PROGRAM)
 room = tempfile.mkdtemp(prefix="efihost-")
@@ -54,6 +60,8 @@ def run(*arguments, keys=""):
     how = {"input": keys, "capture_output": True, "text": True, "errors": "replace", "timeout": 100}
     ran = subprocess.run([EFIHOST, *arguments], **how)
     ran.stdout = ran.stdout.replace("\r", "")
+    if ran.returncode == REPORTED:
+        expect(False, f"nothing is reported of efihost {' '.join(arguments)}", ran)
     return ran
 
 
@@ -72,8 +80,12 @@ def read(name):
 
 def report_of(*arguments):
     ran = run("--json", at("report.json"), *arguments)
-    with open(at("report.json"), encoding="utf-8") as file:
-        return ran, json.load(file)
+    try:
+        with open(at("report.json"), encoding="utf-8") as file:
+            return ran, json.load(file)
+    except ValueError:
+        expect(False, f"there is a report of efihost {' '.join(arguments)}", ran)
+        return ran, {"ending": "", "why": "", "findings": [], "missing": [], "left": []}
 
 
 def begun(*arguments):
@@ -94,8 +106,42 @@ def patched(name, form, *places):
     return at(name)
 
 
+def in_valgrind():
+    """A script that runs efihost in valgrind, whose own memory is where a machine has its lowest."""
+    memory = [{"type": 7, "start": "0x100000000", "pages": 0xFF90, "attributes": "0xf"}]
+    with open(at("valgrind.json"), "w", encoding="utf-8") as file:
+        json.dump({"memory": memory}, file)
+    call = ["valgrind", "-q", f"--error-exitcode={REPORTED}", f"--suppressions={HERE}/valgrind.supp", EFIHOST]
+    with open(at("in-valgrind"), "w", encoding="utf-8") as file:
+        file.write(f'#!/bin/sh\nexec {" ".join(call)} --rights --machine {at("valgrind.json")} "$@"\n')
+    os.chmod(at("in-valgrind"), 0o755)
+    return at("in-valgrind")
+
+
+# What isn't run so, and why.
+LEFT_OUT = {
+    "sanitized": {},
+    "valgrind": {},
+}
+
+
+def leave_out(checks):
+    module = sys.modules[checks.__module__]
+    for name, why in LEFT_OUT["sanitized" if words.sanitized else "valgrind"].items():
+        if hasattr(module, name):
+            setattr(module, name, lambda *_, text=f"{name}: {why}": skip(text))
+
+
+if words.sanitized:
+    os.environ["ASAN_OPTIONS"] = os.environ["UBSAN_OPTIONS"] = SANITIZED
+if words.valgrind:
+    EFIHOST = in_valgrind()
+
+
 def finish(checks):
     """Builds the applications, runs the checks, and ends with the counts."""
+    if words.sanitized or words.valgrind:
+        leave_out(checks)
     try:
         built = subprocess.run([os.path.join(HERE, "build-apps"), apps])
         if built.returncode == 77:
