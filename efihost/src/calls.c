@@ -3,6 +3,11 @@
 #include "host.h"
 
 #include <string.h>
+#ifdef IN_VALGRIND
+#include <valgrind/memcheck.h>
+#else
+#define VALGRIND_MAKE_MEM_DEFINED(at, size) ((void)(at), (void)(size))
+#endif
 
 #define LAST 16U
 #define MAX_MISSING 64U
@@ -144,6 +149,7 @@ __attribute__((no_sanitize_address)) static void walk(struct origin *origin, uin
         return;
     at = (const uint64_t *)POINTER(host.call->frame) + 2;
     end = at + words_above(at);
+    VALGRIND_MAKE_MEM_DEFINED(at, NUMBER(end) - NUMBER(at)); /* also where nobody wrote */
     for (at = next_pointer(at, end); at < end && count < TRAIL; at = next_pointer(at + 1, end)) {
         struct image *image = image_at(*at);
 

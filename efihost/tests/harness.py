@@ -111,7 +111,8 @@ def in_valgrind():
     memory = [{"type": 7, "start": "0x100000000", "pages": 0xFF90, "attributes": "0xf"}]
     with open(at("valgrind.json"), "w", encoding="utf-8") as file:
         json.dump({"memory": memory}, file)
-    call = ["valgrind", "-q", f"--error-exitcode={REPORTED}", f"--suppressions={HERE}/valgrind.supp", EFIHOST]
+    call = ["valgrind", "-q", f"--error-exitcode={REPORTED}", f"--suppressions={HERE}/valgrind.supp"]
+    call += ["--vex-iropt-register-updates=allregs-at-mem-access", EFIHOST]  # code goes on after a fault
     with open(at("in-valgrind"), "w", encoding="utf-8") as file:
         file.write(f'#!/bin/sh\nexec {" ".join(call)} --rights --machine {at("valgrind.json")} "$@"\n')
     os.chmod(at("in-valgrind"), 0o755)
@@ -121,15 +122,33 @@ def in_valgrind():
 # What isn't run so, and why.
 LEFT_OUT = {
     "sanitized": {},
-    "valgrind": {},
+    "valgrind": {
+        "check_failing": "each of its images reads or writes at a null pointer, which valgrind reports too",
+        "check_mutations": "its images read and write anywhere",
+        "check_bad_images": "what is loaded of them is fuzzed with sanitizers",
+        "check_firmware": "what is read of it is fuzzed with sanitizers",
+        "check_machines": "valgrind has its own memory at their addresses",
+        "check_example_machines": "valgrind has its own memory at their addresses",
+        "check_many": "a process has no room for that many pieces of memory and valgrind's",
+        "check_signals": "they are valgrind's before they are efihost's",
+        "check_rights": "valgrind needs rights that efihost gives up",
+        "privileged": "valgrind ends at such an instruction",
+        "never-placed": "valgrind has memory where it writes",
+        "many-blocks": "it takes minutes",
+    },
 }
 
 
 def leave_out(checks):
+    """Leaves checks and applications of a file of tests out."""
     module = sys.modules[checks.__module__]
+    tables = [it for it in vars(module).values() if isinstance(it, dict)]
     for name, why in LEFT_OUT["sanitized" if words.sanitized else "valgrind"].items():
         if hasattr(module, name):
             setattr(module, name, lambda *_, text=f"{name}: {why}": skip(text))
+        for table in tables:
+            if table.pop(name, None) is not None:
+                skip(f"{name}: {why}")
 
 
 if words.sanitized:
