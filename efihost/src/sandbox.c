@@ -73,9 +73,11 @@ static const int reading_calls[] = {
     SCMP_SYS(landlock_add_rule), SCMP_SYS(landlock_restrict_self),
 };
 #ifdef __SANITIZE_ADDRESS__
-/* Those by which its runtime looks for a stack's bounds, in the map of the process. */
-static const int sanitizer_calls[] = {SCMP_SYS(openat), SCMP_SYS(sched_getaffinity),
-                                      SCMP_SYS(prlimit64)};
+/* Those by which its runtime looks for a stack's bounds, in the map of the process, and reports. */
+static const int sanitizer_calls[] = {
+    SCMP_SYS(openat), SCMP_SYS(sched_getaffinity), SCMP_SYS(prlimit64), SCMP_SYS(sigaltstack),
+    SCMP_SYS(gettid), SCMP_SYS(getpid),            SCMP_SYS(madvise),   SCMP_SYS(futex),
+};
 #endif
 /* Whether a stream is a terminal, and how keys come from it. */
 static const struct {
