@@ -79,7 +79,7 @@ void found_access(uint64_t address, uint64_t instruction, const char *how)
 
     if (image_at(instruction) == NULL && host.call != NULL)
         origin = origin_now();
-    if (structure != NULL && write)
+    if (structure != NULL)
         found(FIRMWARE_WRITTEN, &origin, "%s byte %lu of %s at 0x%lx, which images only read", how,
               byte, structure, address - byte);
     else if (block != NULL && address >= block->at)
