@@ -3,15 +3,9 @@
 #include "host.h"
 
 #include <string.h>
-#ifdef IN_VALGRIND
-#include <valgrind/memcheck.h>
-#else
-#define VALGRIND_MAKE_MEM_DEFINED(at, size) ((void)(at), (void)(size))
-#endif
 
 #define LAST 16U
 #define MAX_MISSING 64U
-#define LOOKED_AT 256U
 
 static struct {
     const char *name;
@@ -98,96 +92,6 @@ EFI_STATUS leave(struct call *call, EFI_STATUS status)
                 status_text(status));
     }
     return status;
-}
-
-/* Whether the bytes before an address are a call instruction. */
-bool behind_call(const struct image *image, uint64_t address)
-{
-    const uint8_t *at = POINTER(address);
-
-    if (address - image->base < 8)
-        return false;
-    if (at[-5] == 0xe8)
-        return true;
-    for (int size = 2; size <= 7; size++) /* by a register, or by a word in memory */
-        if (at[-size] == 0xff && (at[1 - size] & 0x38) == 0x10 && size != 5)
-            return true;
-    return false;
-}
-
-/* How many words of the stack, from `at` on, may be looked at. */
-static size_t words_above(const uint64_t *at)
-{
-    size_t count = NUMBER(at) < host.stack_end ? (host.stack_end - NUMBER(at)) / sizeof *at : 0;
-
-    return count < LOOKED_AT ? count : LOOKED_AT;
-}
-
-/* The first of these words that points to where images are, or their end. It reads all of the
- * stack, which a sanitizer would not have. */
-__attribute__((no_sanitize_address)) static const uint64_t *next_pointer(const uint64_t *at,
-                                                                         const uint64_t *end)
-{
-    uint64_t start = host.images_start, size = host.images_end - start;
-
-    while (end - at >= 4 && !((at[0] - start < size) | (at[1] - start < size) |
-                              (at[2] - start < size) | (at[3] - start < size)))
-        at += 4;
-    while (at < end && *at - start >= size)
-        at++;
-    return at;
-}
-
-/* The callers' callers: words of the stack that point behind a call instruction of an image. */
-__attribute__((no_sanitize_address)) static void walk(struct origin *origin, uint64_t caller)
-{
-    const uint64_t *at, *end;
-    size_t count = 0;
-
-    if (host.call == NULL || host.call->caller != caller || host.call->frame < host.stack ||
-        host.call->frame >= host.stack_end)
-        return;
-    at = (const uint64_t *)POINTER(host.call->frame) + 2;
-    end = at + words_above(at);
-    VALGRIND_MAKE_MEM_DEFINED(at, NUMBER(end) - NUMBER(at)); /* also where nobody wrote */
-    for (at = next_pointer(at, end); at < end && count < TRAIL; at = next_pointer(at + 1, end)) {
-        struct image *image = image_at(*at);
-
-        if (image == NULL || !behind_call(image, *at))
-            continue;
-        origin->trail[count].image = image;
-        origin->trail[count++].address = *at - image->base;
-    }
-}
-
-struct origin origin_at(uint64_t caller)
-{
-    struct origin origin;
-
-    memset(&origin, 0, sizeof origin);
-    origin.image = image_at(caller);
-    origin.address = origin.image == NULL ? caller : caller - origin.image->base;
-    origin.call = host.calls;
-    if (host.checks && origin.image != NULL)
-        walk(&origin, caller);
-    return origin;
-}
-
-/* The call that is under way, without its callers, whom it takes long to find. */
-struct origin origin_without_trail(void)
-{
-    uint64_t caller = host.call == NULL ? 0 : host.call->caller;
-    struct origin origin = {image_at(caller), caller, host.calls, {{NULL, 0}}};
-
-    if (origin.image != NULL)
-        origin.address = caller - origin.image->base;
-    return origin;
-}
-
-/* The origin of the call that is under way. */
-struct origin origin_now(void)
-{
-    return origin_at(host.call == NULL ? 0 : host.call->caller);
 }
 
 /* The last calls, the oldest first. */

@@ -114,7 +114,6 @@ uint64_t core_locate_buffer(uint32_t search, const void *guid, uint64_t key, uin
     host.in_pool = true;
     status = RafkudinLocateHandleBuffer(host.core, search, &copy, key, count, address);
     host.in_pool = false;
-
     TRACE(.service = RAFKUDIN_CALL_LOCATE_HANDLE_BUFFER, .search_type = search, .protocol = copy,
           .key = key);
     check_certificate();
@@ -168,7 +167,6 @@ uint64_t core_information(uint64_t handle, const void *guid, uint64_t *address, 
     host.in_pool = true;
     status = RafkudinOpenProtocolInformation(host.core, handle, &copy, address, count);
     host.in_pool = false;
-
     TRACE(.service = RAFKUDIN_CALL_OPEN_PROTOCOL_INFORMATION, .handle = handle, .protocol = copy);
     check_certificate();
     return status;

@@ -288,7 +288,10 @@ static void on_fault(int number, siginfo_t *info, void *context)
     }
     inside = 1;
     it = facts(number, info, context);
+    host.fault.instruction = it.place;
+    host.fault.stack = it.fetch ? it.stack + 8 : it.stack;
     heeded = heed(&it, context);
+    host.fault.instruction = 0;
     if (heeded == ENDS) {
         describe(&it, context);
         if (is_host_failure(&it))

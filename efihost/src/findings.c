@@ -1,4 +1,5 @@
-/* What --check and --guard find: each is said once for each place, counted, and in the report. */
+/* What --check and --guard find: each is said once for each place with all its callers, counted, and
+ * in the report. */
 #include "host.h"
 
 #include <stdarg.h>
@@ -8,7 +9,7 @@
 struct one_finding {
     enum finding kind;
     struct origin origin;
-    uint64_t count;
+    uint64_t stacks, count;
     char text[400];
 };
 static struct one_finding *findings;
@@ -29,11 +30,14 @@ const char *finding_name(enum finding kind)
     return names[kind];
 }
 
-static bool same_place(const struct one_finding *one, enum finding kind,
-                       const struct origin *origin)
+/* The finding of this kind, and of these stacks, that is there already, or NULL. Each leak is one of
+ * its own. */
+static struct one_finding *same_finding(enum finding kind, uint64_t stacks)
 {
-    return one->kind == kind && kind != LEAK && one->origin.image == origin->image &&
-           one->origin.address == origin->address;
+    for (size_t i = 0; kind != LEAK && i < finding_count; i++)
+        if (findings[i].kind == kind && findings[i].stacks == stacks)
+            return &findings[i];
+    return NULL;
 }
 
 static void print_finding(const struct one_finding *one)
@@ -42,37 +46,71 @@ static void print_finding(const struct one_finding *one)
     fprintf(stderr, "efihost:   at %s\n", origin_text(&one->origin));
 }
 
-/* Notes a finding: `origin` is the code that is to blame, or that made the block that was harmed. */
-void found(enum finding kind, const struct origin *origin, const char *format, ...)
+static void note(enum finding kind, const struct origin *origin, uint64_t stacks,
+                 const char *format, va_list words)
 {
-    struct one_finding *one;
-    va_list words;
+    struct one_finding *one = same_finding(kind, stacks);
 
-    if (!host.checks)
+    if (one != NULL) {
+        one->count++;
         return;
-    for (size_t i = 0; i < finding_count; i++)
-        if (same_place(&findings[i], kind, origin)) {
-            findings[i].count++;
-            return;
-        }
+    }
     findings = must(realloc(findings, (finding_count + 1) * sizeof *findings));
     one = &findings[finding_count++];
     one->kind = kind;
     one->origin = *origin;
+    one->stacks = stacks;
     one->count = 1;
-    va_start(words, format);
     vsnprintf(one->text, sizeof one->text, format, words);
-    va_end(words);
     fflush(stdout);
     print_finding(one);
 }
 
-/* An access to memory of the machine that is shut: whose it is, or was. */
+/* Notes a finding: `origin` is the code that is to blame, or that made the block that was harmed. */
+void found(enum finding kind, const struct origin *origin, const char *format, ...)
+{
+    va_list words;
+
+    va_start(words, format);
+    if (host.checks)
+        note(kind, origin, origin->stack, format, words);
+    va_end(words);
+}
+
+/* The same of two places, such as those of an access and of the block's allocation. */
+void found_with(enum finding kind, const struct origin *origin, const struct origin *other,
+                const char *format, ...)
+{
+    va_list words;
+
+    va_start(words, format);
+    if (host.checks)
+        note(kind, origin, origin->stack + 3 * other->stack, format, words);
+    va_end(words);
+}
+
+/* An access to the memory of a pool block, live or freed, or to what lies around it. */
+static void found_at_block(const struct block *block, const struct origin *origin, const char *how,
+                           uint64_t address)
+{
+    if (block->gone)
+        found_with(USE_AFTER_FREE, origin, &block->origin,
+                   "%s byte %ld of %lu bytes at 0x%lx made by %s, which %s freed", how,
+                   (int64_t)(address - block->at), block->size, block->at,
+                   origin_text(&block->origin), origin_text(&block->freed));
+    else
+        found_with(BEHIND_BLOCK, origin, &block->origin,
+                   "%s byte %lu behind a block of %lu bytes at 0x%lx made by %s", how,
+                   address - block->at - block->size, block->size, block->at,
+                   origin_text(&block->origin));
+}
+
+/* An access to memory that is shut: whose it is, or was. */
 void found_access(uint64_t address, uint64_t instruction, const char *how)
 {
     struct origin origin = origin_at(instruction);
     struct block *block = ledger_block_around(address);
-    struct freed *freed = ledger_freed_with(address);
+    struct freed_run *freed = ledger_freed_with(address);
     struct run *run = ledger_run_beside(address);
     uint64_t byte;
     const char *structure = structure_at(address, &byte);
@@ -82,21 +120,21 @@ void found_access(uint64_t address, uint64_t instruction, const char *how)
     if (structure != NULL)
         found(FIRMWARE_WRITTEN, &origin, "%s byte %lu of %s at 0x%lx, which images only read", how,
               byte, structure, address - byte);
-    else if (block != NULL && address >= block->at)
-        found(BEHIND_BLOCK, &origin, "%s byte %lu behind a block of %lu bytes at 0x%lx made by %s",
-              how, address - block->at - block->size, block->size, block->at,
-              origin_text(&block->origin));
+    else if (block != NULL)
+        found_at_block(block, &origin, how, address);
     else if (run != NULL)
-        found(RUN_BORDER, &origin, "%s 0x%lx, %s %lu pages at 0x%lx placed by %s", how, address,
-              address < run->at ? "before" : "behind", run->pages, run->at,
-              origin_text(&run->origin));
+        found_with(RUN_BORDER, &origin, &run->origin,
+                   "%s 0x%lx, %s %lu pages at 0x%lx placed by %s", how, address,
+                   address < run->at ? "before" : "behind", run->pages, run->at,
+                   origin_text(&run->origin));
     else if (freed != NULL)
-        found(USE_AFTER_FREE, &origin,
-              "%s byte %lu of %lu bytes at 0x%lx made by %s, which %s freed", how,
-              address - freed->at, freed->size, freed->at, origin_text(&freed->made),
-              origin_text(&freed->freed));
+        found_with(USE_AFTER_FREE, &origin, &freed->made,
+                   "%s byte %lu of %lu bytes at 0x%lx made by %s, which %s freed", how,
+                   address - freed->at, (uint64_t)(freed->pages * PAGE), freed->at,
+                   origin_text(&freed->made), origin_text(&freed->freed));
     else
-        found(NEVER_PLACED, &origin, "%s 0x%lx, in a page that nobody placed", how, address);
+        found(NEVER_PLACED, &origin, "%s 0x%lx, in a page that %s", how, address,
+              in_pieces(address) ? "no block of the pool has" : "nobody placed");
 }
 
 /* ---- What an image left ---- */
@@ -111,19 +149,13 @@ struct leaks {
     size_t group_count, room;
 };
 
-static bool same_trail(const struct origin *one, const struct origin *other)
-{
-    return one->image == other->image && one->address == other->address &&
-           memcmp(one->trail, other->trail, sizeof one->trail) == 0;
-}
-
 static void add_leak(struct leaks *leaks, const struct origin *origin, uint64_t bytes)
 {
     size_t i = 0;
 
     if (origin->image != leaks->image)
         return;
-    while (i < leaks->group_count && !same_trail(&leaks->groups[i].origin, origin))
+    while (i < leaks->group_count && leaks->groups[i].origin.stack != origin->stack)
         i++;
     if (i == leaks->room) {
         leaks->room = leaks->room == 0 ? 16 : 2 * leaks->room;
@@ -189,7 +221,7 @@ void look_for_leaks(struct image *image, const char *when)
     each_held(say_held, &leaks);
     events = events_of(image);
     if (events > 0) {
-        struct origin origin = {image, image->entry - image->base, 0, {{NULL, 0}}};
+        struct origin origin = {image, image->entry - image->base, 0, 0, {{NULL, 0}}};
 
         found(LEAK, &origin, "%s %s: left %zu of its events", image->name, when, events);
     }

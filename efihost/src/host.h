@@ -25,10 +25,11 @@
 struct image;
 
 /* Where something was asked for: the image whose code called (NULL: the host), the offset in it or,
- * without an image, the address, the number of the call, and who called before. */
+ * without an image, the address, the number of the call, and who called before: the nearest callers,
+ * and a number for the whole stack of them. */
 struct origin {
     struct image *image;
-    uint64_t address, call;
+    uint64_t address, call, stack;
     struct {
         struct image *image;
         uint64_t address;
@@ -51,6 +52,7 @@ struct options {
     size_t disk_count, driver_count, argument_count;
     bool check, guard, strict, quiet, plain, certify, rights, snapshot, require_nx;
     unsigned seconds;
+    uint64_t quarantine; /* the bytes of freed blocks that are held back */
 };
 
 struct host {
@@ -70,6 +72,10 @@ struct host {
     volatile bool signalled; /* a signal waits for the host's own code */
     uint64_t images_start, images_end; /* all images that there ever were lie between */
     uint64_t stack, stack_end; /* that of the machine, on which all images run */
+    uint64_t image_stack; /* above it is none of the image that runs */
+    struct {
+        uint64_t instruction, stack;
+    } fault; /* where the code of an image stopped */
 };
 extern struct host host;
 
@@ -173,10 +179,6 @@ uint64_t core_locate_path(const void *guid, const uint8_t *path, size_t length, 
 void begin(struct call *call, const char *name, uint64_t caller, const uint64_t *arguments);
 bool enter(struct call *call, const char *name, uint64_t caller, const uint64_t *arguments);
 EFI_STATUS leave(struct call *call, EFI_STATUS status);
-bool behind_call(const struct image *image, uint64_t address);
-struct origin origin_at(uint64_t caller);
-struct origin origin_now(void);
-struct origin origin_without_trail(void);
 void open_calls_log(const char *file);
 void close_calls_log(void);
 void print_last_calls(FILE *file);
@@ -184,6 +186,12 @@ void ask_missing(const char *what);
 void print_missing(FILE *file, const char *before);
 size_t missing_count(void);
 const char *missing_name(size_t index);
+
+/* ---- stacks.c: who called whom ---- */
+bool behind_call(const struct image *image, uint64_t address);
+struct origin origin_at(uint64_t caller);
+struct origin origin_now(void);
+struct origin origin_without_trail(void);
 
 /* ---- machine.c ---- */
 struct machine_range {
@@ -198,18 +206,24 @@ const struct machine_range *machine_range_at(uint64_t address);
 bool conventional_range(uint64_t address, uint64_t *start, uint64_t *size);
 uint32_t memory_type(uint64_t address);
 int memory_rights(uint64_t address);
+bool in_granules(uint32_t type);
+uint64_t add_pool_range(uint64_t size);
 void protect_memory(uint64_t address, uint64_t size, int rights);
 void open_memory(uint64_t address, uint64_t size);
 void shut_memory(uint64_t address, uint64_t size);
 void open_all_memory(void);
 
-/* ---- ledger.c: what is live, and who made it ---- */
+/* ---- ledger.c, quarantine.c: what is live, what was freed, and who made it ---- */
 struct block {
-    uint64_t at, size, core_at, core_size;
+    uint64_t at, size, core_at;
+    uint64_t start, room; /* the piece of memory in which it lies; no room: it is the core's block */
     uint32_t type;
-    bool paged; /* it has pages of its own, behind which is one that is shut */
-    struct origin origin;
-    struct block *next;
+    bool executable;
+    bool paged;  /* it has pages of its own, behind which is one that is shut */
+    bool gone;   /* it is freed, and held back */
+    bool harmed; /* bytes around it were written, which is found once */
+    struct origin origin, freed;
+    struct block *next, *later;
 };
 struct run {
     uint64_t at, pages;
@@ -217,29 +231,28 @@ struct run {
     bool red_before, red_behind;
     struct origin origin;
 };
-struct freed {
-    uint64_t at, size;
-    bool filled;
+struct freed_run {
+    uint64_t at, pages;
     struct origin made, freed;
 };
 void ledger_add_block(const struct block *block);
-bool ledger_page_has_block(uint64_t address);
 struct block *ledger_block(uint64_t at);
+struct block *ledger_gone_block(uint64_t at);
 struct block *ledger_block_around(uint64_t address);
-void ledger_remove_block(uint64_t at, struct block *removed);
+void ledger_drop_block(struct block *block);
 void ledger_each_block(void (*visit)(struct block *block, void *context), void *context);
 void ledger_add_run(const struct run *run);
 struct run *ledger_run_with(uint64_t address);
 struct run *ledger_run_beside(uint64_t address);
+bool ledger_red_among(uint64_t at, uint64_t pages);
 void ledger_cut_runs(uint64_t at, uint64_t pages);
 void ledger_each_run(void (*visit)(struct run *run, void *context), void *context);
-void ledger_add_freed(uint64_t at, uint64_t size, bool filled, struct origin made);
-struct freed *ledger_freed_with(uint64_t address);
-struct freed *ledger_any_freed_among(uint64_t at, uint64_t size);
-struct freed *ledger_freed_among(uint64_t at, uint64_t size, size_t *passed);
-void ledger_drop_freed(struct freed *entry);
+void ledger_add_freed(uint64_t at, uint64_t pages, struct origin made);
+struct freed_run *ledger_freed_with(uint64_t address);
+void hold_back(struct block *block);
+void each_held_back(void (*visit)(struct block *block));
 
-/* ---- memory.c, red_zones.c ---- */
+/* ---- memory.c, red_zones.c, pieces.c ---- */
 EFI_STATUS host_pages(uint32_t kind, uint32_t type, uint64_t pages, uint64_t *at);
 EFI_STATUS host_plain_pages(uint32_t kind, uint32_t type, uint64_t pages, uint64_t *at);
 EFI_STATUS host_free_pages(uint64_t at, uint64_t pages);
@@ -249,17 +262,19 @@ EFI_STATUS host_adopt_block(uint64_t core_at, uint64_t size, void **block);
 void *try_machine_block(uint64_t size);
 void *machine_block(uint64_t size);
 void free_machine_block(void *block);
+bool give_red_pages(void);
+uint64_t red_changes(void);
 void touch(const void *bytes, size_t count, bool write);
 void fill_memory_services(EFI_BOOT_SERVICES *boot);
 struct origin last_map_change(void);
-uint64_t zone_request(const struct block *block);
-void zone_lay(struct block *block);
-void zone_look(const struct block *block, const char *when);
-void zone_free(const struct block *block);
-void zone_look_at_freed(struct freed *freed);
-void zone_look_at_reuse(uint64_t at, uint64_t size);
+void zone_make(struct block *block);
+void zone_look(struct block *block, const char *when);
+void zone_free(const struct block *block, bool held_back);
+void zone_look_at_gone(struct block *block);
 void zone_look_at_all(const char *when);
-void zone_shut_free(uint64_t address, uint64_t size);
+uint64_t take_piece(uint64_t *size, bool executable);
+void give_piece(uint64_t at, uint64_t size, bool executable);
+bool in_pieces(uint64_t address);
 
 /* ---- structures.c: what images see of the firmware and only read ---- */
 void *make_structure(const char *name, const void *bytes, size_t size);
@@ -285,6 +300,8 @@ enum finding {
 };
 void found(enum finding kind, const struct origin *origin, const char *format, ...)
     __attribute__((format(printf, 3, 4)));
+void found_with(enum finding kind, const struct origin *origin, const struct origin *other,
+                const char *format, ...) __attribute__((format(printf, 4, 5)));
 size_t findings_count(void);
 const char *finding_name(enum finding kind);
 void write_findings(FILE *file);

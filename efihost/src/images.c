@@ -158,7 +158,9 @@ EFI_STATUS start_image(struct image *image)
 {
     struct call *call = host.call;
     EFI_TPL before = host.tpl;
+    uint64_t stack = host.image_stack;
 
+    host.image_stack = FRAME;
     image->below = host.running;
     host.running = image;
     image->started = true;
@@ -166,6 +168,7 @@ EFI_STATUS start_image(struct image *image)
     if (sigsetjmp(image->back, 0) == 0)
         image->status =
             ((EFI_IMAGE_ENTRY_POINT)(uintptr_t)image->entry)(image->handle, host.table);
+    host.image_stack = stack;
     host.running = image->below;
     host.call = call;
     host.tpl = before;
@@ -264,7 +267,7 @@ EFI_STATUS EFIAPI ExitBootServices(EFI_HANDLE handle, UINTN key)
     EFI_STATUS status;
 
     signal_before_exit();
-    status = core_exit(NUMBER(handle), key);
+    status = core_exit(NUMBER(handle), key + red_changes());
     if (status == EFI_INVALID_PARAMETER)
         found_stale_key(key);
     if (status != EFI_SUCCESS)

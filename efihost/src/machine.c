@@ -9,6 +9,7 @@
 #include <sys/mman.h>
 
 #define LOWEST 0x10000ULL /* what a process may have lies at or above this */
+#define GAPS_END 0x7fff0000ULL
 #define MAX_PAGES 0x800000 /* of memory that the core is handed, of which it keeps a byte each */
 #define DATA (PROT_READ | PROT_WRITE)
 #define ALL (DATA | PROT_EXEC)
@@ -179,6 +180,56 @@ void make_machine(const char *file)
     for (size_t i = 0; i < range_count; i++)
         if (ranges[i].mapped)
             ranges[i].changed = must(calloc(ranges[i].pages, 1));
+}
+
+/* Whether memory of a type is placed in whole granules of 16 pages. */
+bool in_granules(uint32_t type)
+{
+    return granule == 16 &&
+           (type == RAFKUDIN_RESERVED || type == RAFKUDIN_RUNTIME_SERVICES_CODE ||
+            type == RAFKUDIN_RUNTIME_SERVICES_DATA || type == RAFKUDIN_ACPI_MEMORY_NVS);
+}
+
+/* Addresses that the machine doesn't have: the last of the largest gap below 2 GiB, or some above
+ * all of its memory. 0: there is no such room. */
+static uint64_t find_gap(uint64_t size)
+{
+    uint64_t best = 0, best_size = 0, end = 1ULL << 24;
+
+    for (size_t i = 0; i <= range_count; i++) {
+        uint64_t next = i == range_count || ranges[i].start > GAPS_END ? GAPS_END : ranges[i].start;
+
+        if (next > end && next - end > best_size) {
+            best_size = next - end;
+            best = next - size;
+        }
+        if (i < range_count && ranges[i].start + ranges[i].pages * PAGE > end)
+            end = ranges[i].start + ranges[i].pages * PAGE;
+    }
+    if (best_size > size)
+        return best;
+    end = end < 1ULL << 32 ? 1ULL << 32 : (end | ((1ULL << 30) - 1)) + 1;
+    return end < 1ULL << 46 ? end : 0;
+}
+
+/* Makes a range of memory for the pool's blocks, which is shut and no part of the machine; or 0. */
+uint64_t add_pool_range(uint64_t size)
+{
+    int flags = MAP_PRIVATE | MAP_ANONYMOUS | MAP_NORESERVE;
+    int rights = all_open ? ALL : PROT_NONE;
+    uint64_t at = find_gap(size), pages = (size + PAGE - 1) / PAGE;
+    struct machine_range range = {at, pages, 0, RAFKUDIN_BOOT_SERVICES_DATA, true, rights, NULL};
+
+    if (at == 0 || mmap(POINTER(at), size, rights, flags | MAP_FIXED_NOREPLACE, -1, 0) !=
+                       POINTER(at)) {
+        range.start = NUMBER(mmap(NULL, size, rights, flags, -1, 0));
+        if (POINTER(range.start) == MAP_FAILED)
+            return 0;
+    }
+    range.changed = must(calloc(pages, 1));
+    keep(range);
+    qsort(ranges, range_count, sizeof *ranges, by_start);
+    return range.start;
 }
 
 /* The range of the machine with an address, or NULL. */

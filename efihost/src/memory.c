@@ -3,6 +3,9 @@
 
 #include <string.h>
 
+#define ALL_PAGES (1ULL << 52)
+#define GRANULE 16U /* pages */
+
 static struct origin map_change;
 
 struct origin last_map_change(void)
@@ -17,10 +20,11 @@ static void keep_run(uint64_t at, uint64_t pages, uint32_t type, bool red)
 
     if (!host.checks)
         return;
+    if (in_granules(type))
+        run.pages = (pages + GRANULE - 1) / GRANULE * GRANULE;
     run.origin = map_change = origin_now();
     ledger_add_run(&run);
-    zone_look_at_reuse(at, pages * PAGE);
-    open_memory(at, pages * PAGE);
+    open_memory(run.at, run.pages * PAGE);
 }
 
 /* Pages with nothing around them. */
@@ -33,82 +37,188 @@ EFI_STATUS host_plain_pages(uint32_t kind, uint32_t type, uint64_t pages, uint64
     return status;
 }
 
-/* With --check a page on each side of a run is placed with it and stays shut, where the place is
- * the core's to choose and there is room. */
-EFI_STATUS host_pages(uint32_t kind, uint32_t type, uint64_t pages, uint64_t *at)
+/* ---- Red pages: one on each side of a run, placed with it and shut ---- */
+
+static uint64_t given_back;
+
+/* How many changes of the map's key are those of red pages that were given back. The caller's key
+ * does not count them, so that it is that of a run without a check. */
+uint64_t red_changes(void)
+{
+    return given_back;
+}
+
+static bool gives_back(bool *red, uint64_t at)
+{
+    if (!*red || core_free_pages(at, 1) != EFI_SUCCESS)
+        return false;
+    given_back++;
+    *red = false;
+    return true;
+}
+
+struct pages {
+    uint64_t at, end;
+    bool any;
+};
+
+/* Gives the red pages of a run back that are among these. */
+static void give_some(struct run *run, void *context)
+{
+    struct pages *among = context;
+    uint64_t before = run->at - PAGE, behind = run->at + run->pages * PAGE;
+
+    if (before >= among->at && before < among->end)
+        among->any |= gives_back(&run->red_before, before);
+    if (behind >= among->at && behind < among->end)
+        among->any |= gives_back(&run->red_behind, behind);
+}
+
+/* Gives all red pages back, so that no request is refused for them. False where there are none. */
+bool give_red_pages(void)
+{
+    struct pages all = {0, UINT64_MAX, false};
+
+    ledger_each_run(give_some, &all);
+    return all.any;
+}
+
+/* Gives those back that alone keep these pages from being free. */
+static bool give_red_among(uint64_t at, uint64_t pages)
+{
+    struct pages among = {at, at + pages * PAGE, false};
+    uint64_t start, size;
+
+    if (at % PAGE != 0 || pages >= ALL_PAGES - at / PAGE)
+        return false;
+    for (uint64_t next = at; next < among.end;) {
+        if (conventional_range(next, &start, &size))
+            next = start + size;
+        else if (ledger_run_beside(next) != NULL)
+            next += PAGE;
+        else
+            return false;
+    }
+    ledger_each_run(give_some, &among);
+    return among.any;
+}
+
+/* With --check a run has red pages, where its place is the core's to choose and there is room. */
+static bool red_pages(uint32_t kind, uint32_t type, uint64_t pages, uint64_t *at)
 {
     uint64_t start = *at;
 
-    if (!host.checks || kind > RAFKUDIN_MAX_ADDRESS || pages == 0 || pages > UINT64_MAX / PAGE - 2)
-        return host_plain_pages(kind, type, pages, at);
-    if (core_pages(kind, type, pages + 2, &start) != EFI_SUCCESS)
-        return host_plain_pages(kind, type, pages, at);
+    if (!host.checks || kind > RAFKUDIN_MAX_ADDRESS || pages == 0 || pages > ALL_PAGES ||
+        in_granules(type) || core_pages(kind, type, pages + 2, &start) != EFI_SUCCESS)
+        return false;
     *at = start + PAGE;
     shut_memory(start, (pages + 2) * PAGE);
     keep_run(*at, pages, type, true);
-    return EFI_SUCCESS;
+    return true;
 }
 
+EFI_STATUS host_pages(uint32_t kind, uint32_t type, uint64_t pages, uint64_t *at)
+{
+    EFI_STATUS status;
+
+    if (red_pages(kind, type, pages, at))
+        return EFI_SUCCESS;
+    status = host_plain_pages(kind, type, pages, at);
+    if (host.checks &&
+        ((status == EFI_OUT_OF_RESOURCES && give_red_pages()) ||
+         (status == EFI_NOT_FOUND && kind == RAFKUDIN_AT_ADDRESS && give_red_among(*at, pages))))
+        status = host_plain_pages(kind, type, pages, at);
+    return status;
+}
+
+/* The place that the core has for an address in a pool block. */
+static uint64_t core_address(uint64_t at)
+{
+    struct block *block = in_pieces(at) ? ledger_block_around(at) : NULL;
+
+    return block == NULL ? at : block->core_at + (at - block->at);
+}
+
+/* Where the pages begin and end that are freed with those from `at` to `end`: red ones, and the rest
+ * of a granule. */
+static uint64_t freed_start(const struct run *run, uint64_t at)
+{
+    if (run != NULL && in_granules(run->type))
+        return at / (GRANULE * PAGE) * (GRANULE * PAGE);
+    return run != NULL && run->red_before && at == run->at ? at - PAGE : at;
+}
+
+static uint64_t freed_end(const struct run *run, uint64_t end)
+{
+    if (run != NULL && in_granules(run->type))
+        return (end + GRANULE * PAGE - 1) / (GRANULE * PAGE) * (GRANULE * PAGE);
+    return run != NULL && run->red_behind && end == run->at + run->pages * PAGE ? end + PAGE : end;
+}
+
+/* A red page itself is not the caller's. */
 EFI_STATUS host_free_pages(uint64_t at, uint64_t pages)
 {
-    uint64_t start = at, end = at + pages * PAGE;
-    const struct run *run;
+    uint64_t start, end;
+    struct run *run;
     struct origin made;
     EFI_STATUS status;
 
-    if (!host.checks) {
+    at = core_address(at);
+    if (!host.checks || pages == 0 || at % PAGE != 0 || pages >= ALL_PAGES - at / PAGE) {
         status = core_free_pages(at, pages);
         if (status == EFI_SUCCESS)
             open_memory(at, pages * PAGE);
         return status;
     }
+    if (ledger_red_among(at, pages))
+        return EFI_NOT_FOUND;
     run = ledger_run_with(at);
     made = run == NULL ? origin_now() : run->origin;
-    if (run != NULL && pages != 0 && at % PAGE == 0 && end <= run->at + run->pages * PAGE) {
-        if (at == run->at && run->red_before)
-            start -= PAGE;
-        if (end == run->at + run->pages * PAGE && run->red_behind)
-            end += PAGE;
-    }
+    start = freed_start(run, at);
+    end = at + pages * PAGE;
+    end = freed_end(ledger_run_with(end - 1), end);
     status = core_free_pages(start, (end - start) / PAGE);
     if (status != EFI_SUCCESS)
         return status;
     map_change = origin_without_trail();
-    ledger_cut_runs(at, pages);
-    zone_shut_free(start, end - start);
-    ledger_add_freed(at, pages * PAGE, false, made);
+    ledger_cut_runs(start, (end - start) / PAGE);
+    shut_memory(start, end - start);
+    ledger_add_freed(at, pages, made);
     return status;
+}
+
+/* ---- The pool ---- */
+
+/* With --check a block lies where there is room around it, and not where the core has its own. */
+static void keep_block(struct block *made, void **block)
+{
+    made->executable = made->type == RAFKUDIN_LOADER_CODE ||
+                       made->type == RAFKUDIN_BOOT_SERVICES_CODE ||
+                       made->type == RAFKUDIN_RUNTIME_SERVICES_CODE;
+    made->origin = map_change = origin_now();
+    zone_make(made);
+    ledger_add_block(made);
+    *block = POINTER(made->at);
 }
 
 EFI_STATUS host_pool(uint32_t type, uint64_t size, void **block)
 {
-    struct block made = {0};
+    struct block made = {.size = size, .type = type};
     EFI_STATUS status;
 
     if (!host.checks)
         return core_pool(type, size, (uint64_t *)block);
-    made.size = size;
-    made.type = type;
-    made.paged = host.options.guard;
-    made.core_size = zone_request(&made);
-    status = core_pool(type, made.core_size, &made.core_at);
-    if (status == EFI_OUT_OF_RESOURCES && made.paged) {
-        made.paged = false;
-        made.core_size = zone_request(&made);
-        status = core_pool(type, made.core_size, &made.core_at);
-    }
-    if (status != EFI_SUCCESS)
-        return status;
-    made.origin = map_change = origin_now();
-    zone_lay(&made);
-    ledger_add_block(&made);
-    *block = POINTER(made.at);
+    status = core_pool(type, size, &made.core_at);
+    if (status == EFI_OUT_OF_RESOURCES && give_red_pages())
+        status = core_pool(type, size, &made.core_at);
+    if (status == EFI_SUCCESS)
+        keep_block(&made, block);
     return status;
 }
 
 EFI_STATUS host_free_pool(void *address)
 {
-    struct block *block, gone = {0};
+    struct block *block;
     EFI_STATUS status;
 
     if (!host.checks)
@@ -120,29 +230,26 @@ EFI_STATUS host_free_pool(void *address)
     status = core_free_pool(block->core_at);
     if (status != EFI_SUCCESS)
         return status;
-    ledger_remove_block(NUMBER(address), &gone);
-    map_change = origin_without_trail();
-    zone_free(&gone);
+    block->freed = map_change = origin_without_trail();
+    if (block->room == 0)
+        ledger_drop_block(block);
+    else
+        hold_back(block);
     return status;
 }
 
 /* Makes a block that the core filled the caller's: its bytes go to where its address says, if they
- * are not there. With --check it is another block, which has something around it. */
+ * are not there. */
 EFI_STATUS host_adopt_block(uint64_t core_at, uint64_t size, void **block)
 {
-    EFI_STATUS status;
+    struct block made = {.size = size, .type = RAFKUDIN_BOOT_SERVICES_DATA, .core_at = core_at};
 
-    if (!host.checks) {
-        if (!host.over_memory)
-            core_read(core_at, POINTER(core_at), size);
-        *block = POINTER(core_at);
-        return EFI_SUCCESS;
-    }
-    status = host_pool(RAFKUDIN_BOOT_SERVICES_DATA, size, block);
-    if (status == EFI_SUCCESS)
+    *block = POINTER(core_at);
+    if (host.checks)
+        keep_block(&made, block);
+    if (!host.over_memory)
         core_read(core_at, *block, size);
-    core_free_pool(core_at);
-    return status;
+    return EFI_SUCCESS;
 }
 
 /* A block of the host itself in the machine's memory, all zero, or NULL. */
@@ -226,10 +333,14 @@ static EFI_STATUS EFIAPI GetMemoryMap(UINTN *size, EFI_MEMORY_DESCRIPTOR *map, U
                                       UINTN *step, uint32_t *version)
 {
     SERVICE("GetMemoryMap", size == NULL ? 0 : *size, NUMBER(map));
+    EFI_STATUS status;
 
     if (size == NULL)
         ANSWER(EFI_INVALID_PARAMETER);
-    ANSWER(core_map(size, map, key, step, version));
+    status = core_map(size, map, key, step, version);
+    if (status == EFI_SUCCESS && key != NULL)
+        *key -= red_changes();
+    ANSWER(status);
 }
 
 static EFI_STATUS EFIAPI AllocatePool(uint32_t type, UINTN size, void **block)
@@ -244,12 +355,13 @@ static EFI_STATUS EFIAPI AllocatePool(uint32_t type, UINTN size, void **block)
 static void found_bad_free(void *block)
 {
     struct origin origin = origin_now();
-    struct freed *freed = ledger_freed_with(NUMBER(block));
+    struct block *gone = ledger_gone_block(NUMBER(block));
 
-    if (freed != NULL && freed->at == NUMBER(block))
-        found(FREE_NOT_LIVE, &origin,
-              "FreePool of 0x%lx, a block of %lu bytes that %s freed; made by %s", NUMBER(block),
-              freed->size, origin_text(&freed->freed), origin_text(&freed->made));
+    if (gone != NULL)
+        found_with(FREE_NOT_LIVE, &origin, &gone->origin,
+                   "FreePool of 0x%lx, a block of %lu bytes that %s freed; made by %s",
+                   NUMBER(block), gone->size, origin_text(&gone->freed),
+                   origin_text(&gone->origin));
     else if (block == NULL)
         found(FREE_NOT_LIVE, &origin, "FreePool of a null pointer");
     else

@@ -102,6 +102,8 @@ static EFI_STATUS EFIAPI OpenProtocolInformation(EFI_HANDLE handle, const EFI_GU
     if (guid == NULL || entries == NULL || count == NULL)
         ANSWER(EFI_INVALID_PARAMETER);
     status = core_information(NUMBER(handle), guid, &address, &found_entries);
+    if (status == EFI_OUT_OF_RESOURCES && give_red_pages())
+        status = core_information(NUMBER(handle), guid, &address, &found_entries);
     if (status == EFI_SUCCESS && found_entries == 0)
         status = host_pool(RAFKUDIN_BOOT_SERVICES_DATA, 0, &block);
     else if (status == EFI_SUCCESS)

@@ -1,6 +1,7 @@
 /* The command line. */
 #include "host.h"
 
+#include <errno.h>
 #include <stdarg.h>
 #include <stdlib.h>
 #include <string.h>
@@ -39,6 +40,9 @@ static const char usage[] =
     "                    that instruction\n"
     "  --require-nx      execution of data is found in every image, not only in those with NX_COMPAT;\n"
     "                    with --check or --guard\n"
+    "  --quarantine BYTES\n"
+    "                    freed pool blocks of so many bytes are held back from use; 0 is none;\n"
+    "                    without the option it is 16777216\n"
     "  --json FILE       the report for programs\n"
     "  --calls FILE      the services that were called, a line each\n"
     "  --trace FILE      the calls of the core for `bootcore run --trace FILE --machine\n"
@@ -57,6 +61,7 @@ static const char usage[] =
 
 #define UNSET UINT32_MAX
 #define MAX_SECONDS 1000000000UL
+#define QUARANTINE (16ULL << 20)
 
 /* Ends a run that can't begin, or that can't go on since the host lacks something for it. */
 void refuse(const char *format, ...)
@@ -115,6 +120,19 @@ static void add_to(const char **list, size_t *count, size_t most, const char *va
     list[(*count)++] = value;
 }
 
+/* A number of an option, of at most `most`. */
+static uint64_t read_number(const char *word, const char *value, const char *what, uint64_t most)
+{
+    uint64_t number;
+    char *end;
+
+    errno = 0;
+    number = strtoull(value, &end, 10);
+    if (*value < '0' || *value > '9' || *end != 0 || errno != 0 || number > most)
+        refuse("%s: %s is no number of %s", word, value, what);
+    return number;
+}
+
 /* An option with a value. */
 static bool read_value(const char *word, const char *value, struct options *options)
 {
@@ -129,8 +147,6 @@ static bool read_value(const char *word, const char *value, struct options *opti
         {"--screen", &options->screen},       {"--firmware", &options->firmware},
         {"--serial-input", &options->serial_input},
     };
-    unsigned long seconds;
-    char *end;
 
     for (size_t i = 0; i < LENGTH(values); i++)
         if (strcmp(word, values[i].word) == 0) {
@@ -143,10 +159,9 @@ static bool read_value(const char *word, const char *value, struct options *opti
     } else if (strcmp(word, "--driver") == 0) {
         add_to(options->drivers, &options->driver_count, MAX_DRIVERS, value);
     } else if (strcmp(word, "--time") == 0) {
-        seconds = strtoul(value, &end, 10);
-        if (end == value || *end != 0 || *value == '-' || seconds > MAX_SECONDS)
-            refuse("--time: %s is no number of seconds", value);
-        options->seconds = (unsigned)seconds;
+        options->seconds = (unsigned)read_number(word, value, "seconds", MAX_SECONDS);
+    } else if (strcmp(word, "--quarantine") == 0) {
+        options->quarantine = read_number(word, value, "bytes", UINT64_MAX);
     } else {
         return false;
     }
@@ -176,6 +191,7 @@ void read_options(int count, char **words, struct options *options)
     int i = 1;
 
     options->seconds = UNSET;
+    options->quarantine = QUARANTINE;
     while (i < count && words[i][0] == '-' && strcmp(words[i], "--") != 0)
         i += read_flag(words[i], options) ? 1 : read_valued(words + i, options);
     if (i < count && strcmp(words[i], "--") == 0)

@@ -289,6 +289,8 @@ static EFI_STATUS EFIAPI LocateHandleBuffer(uint32_t search, const EFI_GUID *gui
     if (count == NULL || handles == NULL || (guid == NULL && search == RAFKUDIN_BY_PROTOCOL))
         ANSWER(EFI_INVALID_PARAMETER);
     status = core_locate_buffer(search, guid, NUMBER(key), &found_handles, &address);
+    if (status == EFI_OUT_OF_RESOURCES && give_red_pages())
+        status = core_locate_buffer(search, guid, NUMBER(key), &found_handles, &address);
     if (status == EFI_SUCCESS)
         status = host_adopt_block(address, 8 * found_handles, &block);
     *count = status == EFI_SUCCESS ? found_handles : 0;

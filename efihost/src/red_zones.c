@@ -1,10 +1,9 @@
 /* The bytes around a pool block that are nobody's, for --check and --guard.
  *
- * With --check the core's block is 64 bytes larger than the caller's, which lies in its middle; the
- * bytes on both sides hold patterns, which are looked at when the block is freed and at ends. With
- * --guard the caller's block ends at the end of a page, behind which is one that is shut; the pages
- * of a freed block are shut until the core places them again. Where the machine has no pages for
- * that, a block is as with --check. */
+ * With --check there are bytes with patterns on both sides of a block, which are looked at when it
+ * is freed and at ends. With --guard the block ends at the end of a page, behind which is one that
+ * is shut, and all its pages are shut once it is freed. A freed block is held back: its bytes have a
+ * pattern too, which is looked at when its memory is to be used again and at ends. */
 #include "host.h"
 
 #include <string.h>
@@ -15,58 +14,46 @@
 #define MAX_FRESH 4096U /* of a block, to keep large ones cheap */
 #define GONE 0xdd
 #define MARGIN 32U
-#define CELL 32U /* the core's blocks are whole cells, and 8 bytes of the first come before */
+#define FRONT 40U /* bytes before a block, whose address is 8 more than a multiple of 32 as the core's */
 
 static uint64_t up(uint64_t number, uint64_t multiple)
 {
     return (number + multiple - 1) / multiple * multiple;
 }
 
-/* The size of the core's block for a caller's block. */
-uint64_t zone_request(const struct block *block)
-{
-    if (!host.checks || block->size > RAFKUDIN_MAX_BLOCK)
-        return block->size;
-    return block->paged ? up(block->size, PAGE) + 2 * PAGE : block->size + 2 * MARGIN;
-}
-
-static uint64_t first_page(const struct block *block)
-{
-    return up(block->core_at, PAGE);
-}
-
 /* The page behind a block that is shut. */
 static uint64_t shut_page(const struct block *block)
 {
-    return first_page(block) + up(block->size, PAGE);
-}
-
-static uint64_t before_start(const struct block *block)
-{
-    return block->paged ? first_page(block) : block->core_at - 8;
+    return block->start + up(block->size, PAGE);
 }
 
 static uint64_t behind_end(const struct block *block)
 {
-    if (block->paged)
-        return shut_page(block);
-    return block->core_at - 8 + up(block->core_size + 8, CELL);
+    return block->paged ? shut_page(block) : block->at + block->size + MARGIN;
 }
 
-/* Finds the caller's place in the core's block, and lays the patterns. */
-void zone_lay(struct block *block)
+/* Finds the place of a block and lays the patterns. Where the process has no memory for that, it is
+ * the core's block with nothing around it. */
+void zone_make(struct block *block)
 {
-    block->at = block->core_at;
-    if (!host.checks)
+    block->paged = host.options.guard;
+    block->room = block->paged ? up(block->size, PAGE) + PAGE : FRONT + block->size + MARGIN;
+    block->start = take_piece(&block->room, block->executable);
+    if (block->start == 0) {
+        block->at = block->core_at;
+        block->room = 0;
+        open_memory(block->at, block->size);
         return;
-    zone_look_at_reuse(block->core_at - 8, up(block->core_size + 8, CELL));
-    open_memory(block->core_at - 8, block->core_size + 8);
-    block->at = block->paged ? shut_page(block) - up(block->size, 8) : block->core_at + MARGIN;
-    memset(POINTER(before_start(block)), BEFORE, block->at - before_start(block));
+    }
+    if (block->paged) {
+        block->at = shut_page(block) - up(block->size, 8);
+        open_memory(block->start, up(block->size, PAGE));
+    } else {
+        block->at = block->start + FRONT;
+    }
+    memset(POINTER(block->start), BEFORE, block->at - block->start);
     memset(POINTER(block->at), FRESH, block->size < MAX_FRESH ? block->size : MAX_FRESH);
     memset(POINTER(block->at + block->size), BEHIND, behind_end(block) - block->at - block->size);
-    if (block->paged)
-        shut_memory(shut_page(block), PAGE);
 }
 
 /* The first of these bytes that is not the pattern, or their end. Where all of them are, each is
@@ -93,13 +80,16 @@ static const char *seen(const char *when, char *text, size_t room)
 }
 
 /* Looks whether a byte on either side of a block was written; `when` is null where it is freed. */
-void zone_look(const struct block *block, const char *when)
+void zone_look(struct block *block, const char *when)
 {
     const uint8_t *at = POINTER(block->at), *end = POINTER(behind_end(block)), *other;
     char text[256];
 
+    if (block->room == 0 || block->harmed)
+        return;
     other = first_other(at + block->size, end, BEHIND);
     if (other < end) {
+        block->harmed = true;
         found(BEHIND_BLOCK, &block->origin,
               "byte %lu behind a block of %lu bytes at 0x%lx was written, 0x%02x, seen %s; it is "
               "allocated",
@@ -107,8 +97,9 @@ void zone_look(const struct block *block, const char *when)
               seen(when, text, sizeof text));
         return;
     }
-    for (other = at; other > (const uint8_t *)POINTER(before_start(block)); other--)
+    for (other = at; other > (const uint8_t *)POINTER(block->start); other--)
         if (other[-1] != BEFORE) {
+            block->harmed = true;
             found(BEFORE_BLOCK, &block->origin,
                   "byte %lu before a block of %lu bytes at 0x%lx was written, 0x%02x, seen %s; it "
                   "is allocated",
@@ -119,61 +110,29 @@ void zone_look(const struct block *block, const char *when)
 }
 
 /* After the core has freed a block. */
-void zone_free(const struct block *block)
+void zone_free(const struct block *block, bool held_back)
 {
-    if (!host.checks)
-        return;
     if (block->paged)
-        shut_memory(first_page(block), shut_page(block) + PAGE - first_page(block));
-    else
+        shut_memory(block->start, up(block->size, PAGE));
+    else if (held_back)
         memset(POINTER(block->at), GONE, block->size);
-    ledger_add_freed(block->at, block->size, !block->paged, block->origin);
-    zone_shut_free(block->core_at - 8, up(block->core_size + 8, CELL));
 }
 
 /* Looks whether a freed block, whose bytes nobody should have written, was. */
-void zone_look_at_freed(struct freed *entry)
+void zone_look_at_gone(struct block *block)
 {
-    const uint8_t *at = POINTER(entry->at), *other;
+    const uint8_t *at = POINTER(block->at), *other;
 
-    if (!entry->filled)
+    if (block->paged || block->harmed || host.exited)
         return;
-    entry->filled = false;
-    other = first_other(at, at + entry->size, GONE);
-    if (other < at + entry->size)
-        found(USE_AFTER_FREE, &entry->made,
-              "byte %lu of a block of %lu bytes at 0x%lx was written after %s freed it; it is "
-              "allocated",
-              (uint64_t)(other - at), entry->size, entry->at, origin_text(&entry->freed));
-}
-
-/* Looks at freed blocks whose bytes are about to be used again. */
-void zone_look_at_reuse(uint64_t at, uint64_t size)
-{
-    struct freed *entry;
-
-    if (!host.checks)
+    other = first_other(at, at + block->size, GONE);
+    if (other == at + block->size)
         return;
-    while ((entry = ledger_any_freed_among(at, size)) != NULL) {
-        zone_look_at_freed(entry);
-        ledger_drop_freed(entry);
-    }
-}
-
-/* Shuts the free memory in which these bytes are, with what is free beside it. */
-void zone_shut_free(uint64_t address, uint64_t size)
-{
-    uint64_t start, length;
-    struct freed *entry;
-
-    for (uint64_t at = address; at < address + size; at = (at / PAGE + 1) * PAGE) {
-        if (ledger_page_has_block(at) || !conventional_range(at, &start, &length))
-            continue;
-        for (size_t i = 0; (entry = ledger_freed_among(start, length, &i)) != NULL; i++)
-            zone_look_at_freed(entry);
-        shut_memory(start, length);
-        at = start + length - PAGE;
-    }
+    block->harmed = true;
+    found_with(USE_AFTER_FREE, &block->origin, &block->freed,
+               "byte %lu of a block of %lu bytes at 0x%lx was written after %s freed it; it is "
+               "allocated",
+               (uint64_t)(other - at), block->size, block->at, origin_text(&block->freed));
 }
 
 static void look_at_block(struct block *block, void *context)
@@ -181,14 +140,11 @@ static void look_at_block(struct block *block, void *context)
     zone_look(block, context);
 }
 
-/* Looks at all blocks, live and freed. */
+/* Looks at all blocks, live and freed. Once boot services have ended all memory is the system's. */
 void zone_look_at_all(const char *when)
 {
-    struct freed *entry;
-
-    if (!host.checks)
+    if (!host.checks || host.exited)
         return;
     ledger_each_block(look_at_block, (void *)(uintptr_t)when);
-    for (size_t i = 0; (entry = ledger_freed_among(0, UINT64_MAX, &i)) != NULL; i++)
-        zone_look_at_freed(entry);
+    each_held_back(zone_look_at_gone);
 }
