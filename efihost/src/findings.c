@@ -167,14 +167,24 @@ static void add_leak(struct leaks *leaks, const struct origin *origin, uint64_t 
     leaks->groups[i].bytes += bytes;
 }
 
+/* Memory that is to stay: a configuration table's, or of a type that the operating system keeps. */
+static bool is_to_stay(uint32_t type, uint64_t at, uint64_t size)
+{
+    return type == RAFKUDIN_RESERVED || type == RAFKUDIN_RUNTIME_SERVICES_CODE ||
+           type == RAFKUDIN_RUNTIME_SERVICES_DATA || type == RAFKUDIN_ACPI_RECLAIM ||
+           type == RAFKUDIN_ACPI_MEMORY_NVS || has_table(at, size);
+}
+
 static void add_block(struct block *block, void *context)
 {
-    add_leak(context, &block->origin, block->size);
+    if (!is_to_stay(block->type, block->at, block->size))
+        add_leak(context, &block->origin, block->size);
 }
 
 static void add_run(struct run *run, void *context)
 {
-    add_leak(context, &run->origin, run->pages * PAGE);
+    if (!is_to_stay(run->type, run->at, run->pages * PAGE))
+        add_leak(context, &run->origin, run->pages * PAGE);
 }
 
 static void say_leaks(struct leaks *leaks, const char *what)

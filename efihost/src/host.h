@@ -264,6 +264,7 @@ void *machine_block(uint64_t size);
 void free_machine_block(void *block);
 bool give_red_pages(void);
 uint64_t red_changes(void);
+void give_block(const void *block, const struct image *from, bool to_caller);
 void touch(const void *bytes, size_t count, bool write);
 void fill_memory_services(EFI_BOOT_SERVICES *boot);
 struct origin last_map_change(void);
@@ -462,6 +463,7 @@ void fill_runtime_services(EFI_RUNTIME_SERVICES *runtime);
 void fill_variable_services(EFI_RUNTIME_SERVICES *runtime);
 void open_variables(const char *file);
 void load_variables(void);
+bool has_table(uint64_t at, uint64_t size);
 
 /* ---- disks.c, folder.c, folder_files.c, graphics.c, picture.c, serial.c ---- */
 void make_disks(void);

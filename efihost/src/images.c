@@ -172,6 +172,7 @@ EFI_STATUS start_image(struct image *image)
     host.running = image->below;
     host.call = call;
     host.tpl = before;
+    give_block(image->exit_data, image, false);
     return image->status;
 }
 
@@ -210,8 +211,10 @@ EFI_STATUS EFIAPI StartImage(EFI_HANDLE handle, UINTN *size, CHAR16 **data)
     status = start_image(image);
     if (size != NULL)
         *size = image->exit_size;
-    if (data != NULL)
+    if (data != NULL) {
         *data = image->exit_data;
+        give_block(image->exit_data, NULL, true);
+    }
     if (image->subsystem == APPLICATION || EFI_ERROR(status))
         unload_image(image);
     ANSWER(status);

@@ -252,6 +252,16 @@ EFI_STATUS host_adopt_block(uint64_t core_at, uint64_t size, void **block)
     return EFI_SUCCESS;
 }
 
+/* A block that an image hands on is its own no longer: it is the caller's of the service that is under
+ * way, or the host's. */
+void give_block(const void *block, const struct image *from, bool to_caller)
+{
+    struct block *it = host.checks ? ledger_block(NUMBER(block)) : NULL;
+
+    if (it != NULL && it->origin.image == from)
+        it->origin = to_caller ? origin_now() : (struct origin){0};
+}
+
 /* A block of the host itself in the machine's memory, all zero, or NULL. */
 void *try_machine_block(uint64_t size)
 {

@@ -56,6 +56,15 @@ static EFI_STATUS EFIAPI InstallConfigurationTable(const EFI_GUID *guid, void *t
     ANSWER(EFI_SUCCESS);
 }
 
+/* Whether a configuration table lies among these bytes. */
+bool has_table(uint64_t at, uint64_t size)
+{
+    for (UINTN i = 0; i < host.table->NumberOfTableEntries; i++)
+        if (NUMBER(host.table->ConfigurationTable[i].VendorTable) - at < size)
+            return true;
+    return false;
+}
+
 static EFI_STATUS EFIAPI GetNextMonotonicCount(uint64_t *count)
 {
     static uint64_t last;

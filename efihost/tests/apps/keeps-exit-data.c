@@ -1,0 +1,3 @@
+/* Never frees the text with which an image exits. */
+#define KEEPS
+#include "takes-exit-data.c"
