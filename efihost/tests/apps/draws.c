@@ -4,7 +4,7 @@
 #include "loader.h"
 
 #define PAGE 4096ULL
-#define CALLS 1500U
+#define CALLS 700U
 #define MAX_BLOCKS 48U
 #define MAX_RUNS 24U
 #define MAX_HANDLES 12U
