@@ -29,7 +29,7 @@ static bool make_room(void)
     struct call *call = host.call;
 
     host.call = NULL;
-    status = host_pages(RAFKUDIN_ANY_PAGES, RAFKUDIN_BOOT_SERVICES_DATA, ROOM_PAGES, &room_at);
+    status = host_plain_pages(RAFKUDIN_ANY_PAGES, RAFKUDIN_BOOT_SERVICES_DATA, ROOM_PAGES, &room_at);
     host.call = call;
     room_left = status == EFI_SUCCESS ? ROOM_PAGES * PAGE : 0;
     if (status != EFI_SUCCESS)
