@@ -3,7 +3,7 @@
  * Images say nothing of their stack. How much of it a function takes is read from its code: from what
  * it gives back after an instruction, before it ends, or, where that is not plain, from what it takes
  * at its beginning, which is where a call goes whose return address may lie on the stack. Both are
- * kept once they are known. Where neither tells, the first word of the stack counts that points behind
+ * kept once they are known. If neither shows it, the first word of the stack counts that points behind
  * a call instruction; such a word may be left from an earlier call. */
 #include "host.h"
 
