@@ -123,8 +123,6 @@ def in_valgrind():
 LEFT_OUT = {
     "sanitized": {
         "check_many": "the sanitizer has memory at the addresses of its machine",
-        "check_symbols": "all memory of the process is looked through, and a sanitizer has terabytes",
-        "check_scan": "the sanitizer makes calls of the system of its own",
         "check_bad_pointers": "some functions of the C library are the sanitizer's, in which a run ends without a report",
         "check_second_faults": "the sanitizer looks at the handler's stack first",
         "copy": "the sanitizer's own copy reads ahead",
