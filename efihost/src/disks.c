@@ -164,7 +164,7 @@ static void make_disk(const char *name, unsigned number)
     path[16] = (uint8_t)number;
     functions.Media = need_structure("BlockIo.Media", &disk->media, sizeof disk->media);
     disk->shown = need_structure("BlockIo", &functions, sizeof functions);
-    shown_path = need_structure("a disk's device path", path, sizeof path);
+    shown_path = machine_copy(path, sizeof path);
     install_one(&handle, &block_io_guid, 0, NUMBER(disk->shown));
     install_one(&handle, &device_path_guid, 0, NUMBER(shown_path));
 }

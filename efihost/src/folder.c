@@ -197,7 +197,7 @@ uint64_t make_folder(const char *path, unsigned number, bool read_only)
         refuse("cannot read folder %s", path);
     device[16] = (uint8_t)number;
     volume->shown = need_structure("SimpleFileSystem", &functions, sizeof functions);
-    shown_path = need_structure("a folder's device path", device, sizeof device);
+    shown_path = machine_copy(device, sizeof device);
     install_one(&handle, &file_system_guid, 0, NUMBER(volume->shown));
     install_one(&handle, &device_path_guid, 0, NUMBER(shown_path));
     return handle;

@@ -261,6 +261,7 @@ EFI_STATUS host_free_pool(void *block);
 EFI_STATUS host_adopt_block(uint64_t core_at, uint64_t size, void **block);
 void *try_machine_block(uint64_t size);
 void *machine_block(uint64_t size);
+void *machine_copy(const void *bytes, size_t size);
 void free_machine_block(void *block);
 bool give_red_pages(void);
 uint64_t red_changes(void);

@@ -284,6 +284,13 @@ void *machine_block(uint64_t size)
     return block;
 }
 
+/* A copy in the machine's memory that images may write. Device paths are such copies: EDK2's library
+ * marks the end of an instance in place, and takes the mark back. */
+void *machine_copy(const void *bytes, size_t size)
+{
+    return memcpy(machine_block(size), bytes, size);
+}
+
 void free_machine_block(void *block)
 {
     struct call *call = host.call;

@@ -107,7 +107,7 @@ void make_serial(const char *to, const char *from)
         refuse("cannot read %s", from);
     functions.Mode = shown = need_structure("SerialIo.Mode", &mode, sizeof mode);
     serial = need_structure("SerialIo", &functions, sizeof functions);
-    path = need_structure("the serial port's device path", serial_path, sizeof serial_path);
+    path = machine_copy(serial_path, sizeof serial_path);
     install_one(&handle, &serial_guid, 0, NUMBER(serial));
     install_one(&handle, &device_path_guid, 0, NUMBER(path));
 }

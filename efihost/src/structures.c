@@ -1,5 +1,5 @@
-/* What the firmware has in the machine's memory and images only read: the functions of protocols,
- * their modes and device paths. It lies in pages of its own. With a check an image that writes to
+/* What the firmware has in the machine's memory and images only read: the functions of protocols
+ * and their modes. It lies in pages of its own. With a check an image that writes to
  * them is found, and then goes on. The host keeps all of it elsewhere too, and goes by that. */
 #include "host.h"
 

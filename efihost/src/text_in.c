@@ -158,7 +158,7 @@ void make_text_in(void)
         reset_in_ex, read_key_ex, key, set_state, register_key, unregister_key};
     void *text_in = need_structure("SimpleTextInput", &functions, sizeof functions);
     void *text_in_ex = need_structure("SimpleTextInputEx", &functions_ex, sizeof functions_ex);
-    void *shown_path = need_structure("the console's device path", path, sizeof path);
+    void *shown_path = machine_copy(path, sizeof path);
     uint64_t in = 0;
 
     install_one(&in, &text_in_guid, 0, NUMBER(text_in));
