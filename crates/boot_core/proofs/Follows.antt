@@ -4,7 +4,7 @@ use Rattle.std.specs.List.{AllByRecursion}
 use Rattle.open_agents.specs.declared.items.OpenRecord.{OpenRecord}
 use Rattle.protocol_services.specs.Lists.{Lists, IsRaised}
 use Rattle.boot_machines.specs.Machines.{MachineValue}
-use Rattle.boot_core.specs.Machines.{Parts, CoreValue, FollowsCalls, IsUnused, all_calls, first_state}
+use Rattle.boot_core.specs.Machines.{Parts, CoreValue, Given, FollowsCalls, IsUnused, all_calls, first_state}
 
 weaken : (P Q : OpenRecord → Type 0) → ((o : OpenRecord) → P o → Q o) → (opens : List OpenRecord) → AllByRecursion P opens → AllByRecursion Q opens
 weaken P Q f [] a = tt
@@ -20,9 +20,9 @@ not_raised old new e = subst (IsRaised old) (sym e) (record {
 })
 
 -- what begins a call says of the parts that a core has
-pub follows_now : {D : Type 0} (p : Parts) (exited : Bool) (n : ℕ) (ds : List D) (v : CoreValue D) → record { state = record { parts = p; exited = exited; calls_left = n }; drivers = ds } ≡ v
+pub follows_now : {D : Type 0} (p : Parts) (exited : Bool) (n : ℕ) (gs : Given D) (v : CoreValue D) → record { state = record { parts = p; exited = exited; calls_left = n }; given = gs } ≡ v
     → FollowsCalls v.state.parts (v.state.calls_left + 1) → FollowsCalls p (n + 1)
-follows_now {D = D} p exited n ds v is follows = subst (λ (w : CoreValue D). FollowsCalls w.state.parts (w.state.calls_left + 1)) (sym is) follows
+follows_now {D = D} p exited n gs v is follows = subst (λ (w : CoreValue D). FollowsCalls w.state.parts (w.state.calls_left + 1)) (sym is) follows
 
 pub follows_on : (old new : Parts) (n : ℕ) → FollowsCalls old (n + 1) → new.book.key ≤ old.book.key + 1 → IsRaised old.lists new.lists → FollowsCalls new n
 follows_on old new n follows key raised =

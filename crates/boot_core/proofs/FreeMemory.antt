@@ -3,7 +3,6 @@ use Rattle.std.proofs.Common.{◌≡◌, ◌≢◌, ◌<◌, ℕ, Bool, true, fa
 use Rattle.page_ranges.specs.declared.statuses.Status.{Status}
 use Rattle.page_ranges.specs.declared.statuses.Status.TheVariants as status
 use Rattle.page_services.specs.PageRules.{FreesPages}
-use Rattle.pool_services.specs.PoolRules.{FreesPool}
 use Rattle.boot_calls.specs.declared.calls.Call.TheVariants as call
 use Rattle.boot_replies.specs.declared.replies.Reply.{Reply}
 use Rattle.boot_replies.specs.declared.replies.Reply.TheVariants as reply
@@ -22,7 +21,7 @@ pool_serves : {A : Type 0} (S : Setting) (exited : Bool) (old new : Parts) (addr
 pool_serves S true old new address answer (result, e, h) out = let refused = h.0 in absurd (cc)
 pool_serves S false old new address answer (result, e, h) out =
     let same : result ≡ Err status.OutOfResources = cc in
-    subst (λ (r : Result (Unit {0}) Status). FreesPool old.book old.pools address r new.book new.pools) same h.0
+    h.0 same
 
 pub never_refused : {A : Type 0} (S : Setting) (old : State) (address pages : ℕ) (answer : Reply A) (new : State) →
     (0 < old.parts.book.frees → StepBy S old (call.FreePages address pages) answer new → answer ≢ reply.FreePages (Err status.OutOfResources)) × (StepBy S old (call.FreePool address) answer new → answer ≢ reply.FreePool (Err status.OutOfResources))

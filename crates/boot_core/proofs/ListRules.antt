@@ -77,7 +77,7 @@ module _ (S : Setting) (P : Lists → Lists → Type 0) (rules : KeepRules S.dri
   by_rules exited old (call.FreePages memory pages) answer new h = served exited old new answer _ _ (λ result rule. lists_stay old.lists new.lists rule.2) h
   by_rules exited old (call.GetMemoryMap size) answer new (returned, bytes, e, h) = while_open exited old new _ _ (λ rule. all_stay old new rule.1) h
   by_rules exited old (call.AllocatePool t size) answer new h = served exited old new answer _ _ (λ result rule. lists_stay old.lists new.lists rule.1) h
-  by_rules exited old (call.FreePool address) answer new h = served exited old new answer _ _ (λ result rule. lists_stay old.lists new.lists rule.1) h
+  by_rules exited old (call.FreePool address) answer new h = served exited old new answer _ _ (λ result rule. lists_stay old.lists new.lists rule.1.1) h
   by_rules exited old (call.PoolRead address size) answer new (returned, bytes, e, h) = while_open exited old new _ _ (λ rule. all_stay old new rule.1) h
   by_rules exited old (call.PoolWrite address bytes) answer new h = served exited old new answer _ _ (λ result rule. lists_stay old.lists new.lists rule.2) h
   by_rules exited old (call.InstallProtocolInterface handle guid kind value) answer new h =

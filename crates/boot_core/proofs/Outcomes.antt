@@ -33,7 +33,7 @@ use Rattle.protocol_services.specs.ListBytes.{handle_bytes, item_bytes}
 use Rattle.boot_replies.specs.declared.replies.PoolList.{PoolList}
 use Rattle.boot_core.specs.PoolLists.{LocatesBuffer, ListsOpens, PutsItems}
 use Rattle.boot_replies.specs.Certified.{list_type}
-use Rattle.boot_core.specs.Steps.{Setting, OnBook, OnBookAndPools, OnPools, Serves, Answers}
+use Rattle.boot_core.specs.Steps.{Setting, OnBook, OnBookAndPools, OnPools, Serves, Answers, FreesBlock}
 use Rattle.boot_core.proofs.Quiet.{quiet}
 use Rattle.boot_core.specs.Laws.{type_at, HaveSameTypes}
 use Rattle.boot_calls.specs.CallNumbers.{NamesTypes}
@@ -129,6 +129,7 @@ given Fits b (Some range) proper owned =
 pub frees_pool : (Fits : Type 0) (b : Book) (es : List Extent) (address : ℕ) (result : Result (Unit {0}) Status) (new_b : Book) (new : List Extent) → IsProperMemory b.memory → AreExtents es → OwnsExtents b.memory es → FreesPool b es address result new_b new → Outcome Fits b new_b
 frees_pool Fits b es address (Ok done) new_b new proper extents owns (p, at, e, rest) = subst (Outcome Fits b) (sym e) (given Fits b (ended p es) proper (λ range is. ended-owned b.memory es p range extents owns is))
 frees_pool Fits b es address (Err status.InvalidParameter) new_b new proper extents owns h = inl h.1
+frees_pool Fits b es address (Err status.OutOfResources) new_b new proper extents owns (p, range, at, ends, none, same, rest) = inl same
 frees_pool Fits b es address (Err other) new_b new proper extents owns h = absurd h
 
 module _ (Fits : Type 0) (old new : Book) where
@@ -253,7 +254,7 @@ module _ (S : Setting) (permits : Permits S.chosen) where
   outcome exited old (call.AllocatePool t size) answer new sound h =
       served (t < 2 ^ 32) exited old new answer _ (λ result. OnBookAndPools (AllocatesPool S.chosen old.book old.pools t size result) old new) (λ result rule. allocates_pool old.book old.pools t size result new.book new.pools sound.proper sound.granules rule.0) h
   outcome exited old (call.FreePool address) answer new sound h =
-      served (Unit {0}) exited old new answer _ (λ result. OnBookAndPools (FreesPool old.book old.pools address result) old new) (λ result rule. frees_pool (Unit {0}) old.book old.pools address result new.book new.pools sound.proper sound.extents sound.owned rule.0) h
+      served (Unit {0}) exited old new answer _ (λ result. FreesBlock old address result new) (λ result rule. frees_pool (Unit {0}) old.book old.pools address result new.book new.pools sound.proper sound.extents sound.owned rule.1.0) h
   outcome exited old (call.PoolWrite address bytes) answer new sound h =
       served (Unit {0}) exited old new answer _ (λ result. OnPools (WritesPool old.pools address bytes result) old new) (λ result rule. inl rule.1) h
   outcome exited old (call.LocateHandleBuffer search guid key) answer new sound h =

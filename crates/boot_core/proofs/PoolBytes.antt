@@ -26,7 +26,7 @@ use Rattle.boot_core.specs.Machines.{Parts, AreSound, parts_of}
 use Rattle.boot_core.specs.PoolCalls.{AnswersRead}
 use Rattle.boot_core.specs.PoolLists.{LocatesBuffer, ListsOpens, PutsItems}
 use Rattle.boot_replies.specs.Certified.{list_type}
-use Rattle.boot_core.specs.Steps.{best_starts, OnBookAndPools, OnPools, WhileOpen, Serves, Answers}
+use Rattle.boot_core.specs.Steps.{best_starts, OnBookAndPools, OnPools, WhileOpen, Serves, Answers, FreesBlock}
 use Rattle.boot_core.specs.Laws.{byte_after, bytes_left, gives_back, handles_of, laid_over, lays, left_by}
 use Rattle.boot_core.proofs.Quiet.{quiet}
 
@@ -56,6 +56,7 @@ given_back b new_b es new address (Ok done) l sound h k =
     let (bytes, here, is) = freed b new_b es new address done sound.extents h in
     is k ∙ ap (λ (n : ℕ). cond (is_among address n k) None (byte_at k es)) (sym (ap bytes_left here))
 given_back b new_b es new address (Err status.InvalidParameter) l sound h k = ap (byte_at k) h.2
+given_back b new_b es new address (Err status.OutOfResources) l sound (p, range, at, ends, none, same, stays) k = ap (byte_at k) stays
 given_back b new_b es new address (Err other) l sound h k = absurd h
 
 written_bytes : (es new : List Extent) (address : ℕ) (bytes : List ℕ) (result : Result (Unit {0}) Status) (b : Book) (l : Lists) → AreSound (parts_of b es l) → WritesPool es address bytes result new → Laid (block_returned (λ (done : Unit {0}). address) bytes result) es new
@@ -141,8 +142,8 @@ bytes_after {A = A} ds exited old (call.AllocatePool t size) answer new sound h 
     changed exited old new (call.AllocatePool t size) answer reply.AllocatePool (λ result. OnBookAndPools (AllocatesPool IsBestChoice old.book old.pools t size result) old new) k refl
     (λ result rule. laid_by old new _ _ k (returned_pool A old t size result) (allocated old.book new.book old.pools new.pools t size result old.lists sound rule.0)) h
 bytes_after {A = A} ds exited old (call.FreePool address) answer new sound h k =
-    changed exited old new (call.FreePool address) answer reply.FreePool (λ result. OnBookAndPools (FreesPool old.book old.pools address result) old new) k refl
-    (λ result rule. given_back old.book new.book old.pools new.pools address result old.lists sound rule.0 k ∙ sym (ap (λ (o : Option ℕ). left_by o old.pools k) (returned_free A address result))) h
+    changed exited old new (call.FreePool address) answer reply.FreePool (λ result. FreesBlock old address result new) k refl
+    (λ result rule. given_back old.book new.book old.pools new.pools address result old.lists sound rule.1.0 k ∙ sym (ap (λ (o : Option ℕ). left_by o old.pools k) (returned_free A address result))) h
 bytes_after {A = A} ds exited old (call.PoolWrite address bytes) answer new sound h k =
     changed exited old new (call.PoolWrite address bytes) answer reply.PoolWrite (λ result. OnPools (WritesPool old.pools address bytes result) old new) k refl
     (λ result rule. laid_by old new _ _ k (returned_write A old address bytes result) (written_bytes old.pools new.pools address bytes result old.book old.lists sound rule.0)) h

@@ -1,9 +1,8 @@
 -- The lists of the protocol services are proper along runs.
-use Rattle.std.proofs.Common.{◌≡◌, ℕ, Bool, List, [], ◌∷◌, refl, sym, subst, arith}
+use Rattle.std.proofs.Common.{ℕ, Bool, List, [], ◌∷◌, refl, sym, subst, arith}
 use Rattle.driver_connect.specs.Drivers.{Meaning}
 use Rattle.protocol_services.specs.Lists.{Lists, no_lists}
 use Rattle.protocol_services.specs.ProperLists.{AreProperLists}
-use Rattle.protocol_services.specs.Searches.{once_found}
 use Rattle.protocol_services.proofs.ProperRules.{found_proper, installs_many, installs_one, locates_handles, locates_protocol, registers}
 use Rattle.protocol_services.proofs.ProperOpens.{closes, handles_protocol, opens_protocol}
 use Rattle.protocol_services.proofs.ProperRemovals.{connects_controller, disconnects_controller, reinstalls, uninstalls}

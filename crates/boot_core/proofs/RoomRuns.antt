@@ -1,5 +1,5 @@
 -- The last number and the last stamp along runs.
-use Rattle.std.proofs.Common.{◌≡◌, ℕ, ◌+◌, ◌*◌, ◌≤◌, Bool, List, [], ◌∷◌, length, refl, ap, arith}
+use Rattle.std.proofs.Common.{ℕ, ◌+◌, ◌*◌, ◌≤◌, Bool, List, [], ◌∷◌, length, refl, ap, arith}
 use Rattle.std.specs.List.{AllByRecursion}
 use Rattle.driver_connect.specs.Drivers.{HasShortPlans, Meaning}
 use Rattle.protocol_services.specs.Lists.{HasRoom, most_given}

@@ -24,7 +24,7 @@ use Rattle.protocol_services.specs.Lists.{Lists}
 use Rattle.boot_replies.specs.declared.replies.PoolList.{PoolList}
 use Rattle.boot_core.specs.PoolLists.{LocatesBuffer, ListsOpens, PutsItems}
 use Rattle.boot_replies.specs.Certified.{list_type}
-use Rattle.boot_core.specs.Steps.{Setting, OnBook, OnBookAndPools, OnPools, Serves, Answers, CallRunBy}
+use Rattle.boot_core.specs.Steps.{Setting, OnBook, OnBookAndPools, OnPools, Serves, Answers, CallRunBy, FreesBlock}
 use Rattle.boot_core.proofs.Quiet.{IsQuiet, quiet}
 use Rattle.boot_core.proofs.Outcomes.{Outcome, allocates, fills_pool, frees, allocates_pool, frees_pool, key_at_most, stays_proper}
 
@@ -48,19 +48,19 @@ frees_kept old address pages result new sound h =
     kept_by (Unit {0}) old new old.pools sound (frees (Unit {0}) old.book address pages result new sound.proper sound.granules h)
     (frees_granules old.book new address pages result h sound.granules)
     sound.extents (freed-keeps old.book old.pools address pages result new sound.granules sound.owned h)
-    (freed-ends old.book old.pools address pages result new sound.granules sound.reserved h)
+    (freed-ends old.book old.pools address pages result new sound.reserved h)
 
 pub frees_pool_kept : (old : Parts) (address : ℕ) (result : Result (Unit {0}) Status) (b : Book) (es : List Extent) → AreSound old → FreesPool old.book old.pools address result b es → IsKept old b es
 frees_pool_kept old address result b es sound h =
     let (extents, owned) = freed-block-keeps old.book old.pools address result b es sound.extents sound.owned h in
     let granules = freed-block-granules old.book old.pools address result b es sound.extents sound.owned h sound.granules in
     kept_by (Unit {0}) old b es sound (frees_pool (Unit {0}) old.book old.pools address result b es sound.proper sound.extents sound.owned h) granules extents owned
-    (freed-block-ends old.book old.pools address result b es sound.extents sound.reserved h)
+    (freed-block-ends old.book old.pools address result b es sound.reserved h)
 
 pub writes_kept : (old : Parts) (address : ℕ) (bytes : List ℕ) (result : Result (Unit {0}) Status) (es : List Extent) → AreSound old → WritesPool old.pools address bytes result es → IsKept old old.book es
 writes_kept old address bytes result es sound h =
     let (extents, owned) = written-keeps old.book.memory old.pools address bytes result es sound.extents sound.owned h in
-    let reserved = written-ends old.book old.pools address bytes result es sound.extents sound.reserved h in
+    let reserved = written-ends old.book old.pools address bytes result es sound.reserved h in
     record { sound = λ l. record { proper = sound.proper; granules = sound.granules; extents = extents; owned = owned; reserved = reserved }; key = omega arith }
 
 -- a service that leaves all parts, or goes by a rule
@@ -83,21 +83,21 @@ module _ (S : Setting) (permits : Permits S.chosen) where
       kept_by _ old new old.pools sound (allocates S permits old.book kind t pages memory result new sound.proper sound.granules h)
       (allocates_granules S.chosen permits old.book new kind t pages memory result h sound.granules)
       sound.extents (placed-keeps S.chosen permits old.book old.pools kind t pages memory result new sound.proper sound.owned h)
-      (placed-ends S.chosen permits old.book old.pools kind t pages memory result new sound.proper sound.reserved h)
+      (placed-ends S.chosen old.book old.pools kind t pages memory result new sound.reserved h)
 
   pub allocates_pool_kept : (old : Parts) (t size : ℕ) (result : Result Answer Status) (b : Book) (es : List Extent) → AreSound old → AllocatesPool S.chosen old.book old.pools t size result b es → IsKept old b es
   allocates_pool_kept old t size result b es sound h =
       let (extents, owned) = allocated-keeps S.chosen permits old.book old.pools t size result b es sound.granules.granule sound.proper sound.extents sound.owned h in
       let granules = allocated-granules S.chosen permits old.book old.pools t size result b es h sound.granules in
       kept_by _ old b es sound (allocates_pool S permits old.book old.pools t size result b es sound.proper sound.granules h) granules extents owned
-      (allocated-ends S.chosen permits old.book old.pools t size result b es sound.granules.granule sound.proper sound.extents sound.reserved h)
+      (allocated-ends S.chosen old.book old.pools t size result b es sound.reserved h)
 
   pub fills_pool_kept : (old : Parts) (t : ℕ) (bytes : List ℕ) (result : Result Answer Status) (b : Book) (es : List Extent) → AreSound old → FillsPool S.chosen old.book old.pools t bytes result b es → IsKept old b es
   fills_pool_kept old t bytes result b es sound h =
       let (extents, owned) = filled-keeps S.chosen permits old.book old.pools t bytes result b es sound.granules.granule sound.proper sound.extents sound.owned h in
       let granules = filled-granules S.chosen permits old.book old.pools t bytes result b es h sound.granules in
       kept_by _ old b es sound (fills_pool S permits old.book old.pools t bytes result b es sound.proper sound.granules h) granules extents owned
-      (filled-ends S.chosen permits old.book old.pools t bytes result b es sound.granules.granule sound.proper sound.extents sound.reserved h)
+      (filled-ends S.chosen old.book old.pools t bytes result b es sound.reserved h)
 
   pub locates_buffer_kept : {A : Type 0} (old : Parts) (search : ℕ) (guid : List ℕ) (key : ℕ) (result : Result (PoolList A) Status) (new : Parts) → AreSound old → LocatesBuffer S.chosen old search guid key result new → IsKept old new.book new.pools
   locates_buffer_kept old search guid key (Ok returned) new sound (handles, found, some, count, filled, lists) = fills_pool_kept old list_type (handle_bytes handles) (Ok (returned.address, returned.certificate)) new.book new.pools sound filled
@@ -127,7 +127,7 @@ module _ (S : Setting) (permits : Permits S.chosen) where
   stays_sound exited old (call.AllocatePool t size) answer new sound h =
       served exited old new answer _ (λ result. OnBookAndPools (AllocatesPool S.chosen old.book old.pools t size result) old new) sound (λ result rule. (allocates_pool_kept old t size result new.book new.pools sound rule.0).sound new.lists) h
   stays_sound exited old (call.FreePool address) answer new sound h =
-      served exited old new answer _ (λ result. OnBookAndPools (FreesPool old.book old.pools address result) old new) sound (λ result rule. (frees_pool_kept old address result new.book new.pools sound rule.0).sound new.lists) h
+      served exited old new answer _ (λ result. FreesBlock old address result new) sound (λ result rule. (frees_pool_kept old address result new.book new.pools sound rule.1.0).sound new.lists) h
   stays_sound exited old (call.PoolWrite address bytes) answer new sound h =
       served exited old new answer _ (λ result. OnPools (WritesPool old.pools address bytes result) old new) sound
       (λ result rule. subst (λ (b : Book). AreSound (parts_of b new.pools new.lists)) (sym rule.1) ((writes_kept old address bytes result new.pools sound rule.0).sound new.lists)) h

@@ -8,8 +8,9 @@ use Rattle.boot_calls.specs.declared.calls.Call.{Call}
 use Rattle.boot_replies.specs.Certified.{map_before}
 use Rattle.boot_machines.specs.Machines.{MachineValue}
 use Rattle.page_services.specs.PageRules.{Book, IsInGranules, certifying, new_book, preparing}
+use Rattle.raw_pool.specs.declared.pages.numbered.PoolMemory.{PoolMemory}
 use Rattle.pool_services.specs.Extents.{Extent, AreExtents}
-use Rattle.pool_services.specs.PoolRules.{HasReservedEnds, OwnsExtents}
+use Rattle.pool_services.specs.PoolRules.{HasReservedEnds, OwnsExtents, PoolValue}
 use Rattle.protocol_services.specs.Lists.{Lists, no_lists}
 
 -- what the services work on: the memory with its key, the extents of the pool, and the lists of the
@@ -21,6 +22,10 @@ pub record Parts : Type 0 where
 
 abbrev pub parts_of : Book → List Extent → Lists → Parts
 parts_of book pools lists = record { book = book; pools = pools; lists = lists }
+
+-- the same of a pool that may lie in memory
+abbrev pub parts_in : Book → PoolValue → Lists → Parts
+parts_in book pool lists = parts_of book pool.extents lists
 
 -- the parts, whether the boot services have ended, and how many calls may still be made
 pub record State : Type 0 where
@@ -111,14 +116,28 @@ pub record AreSound (p : Parts) : Type 0 where
   pub owned : OwnsExtents p.book.memory p.pools
   pub reserved : HasReservedEnds p.book p.pools
 
--- the state of the machine, and the drivers that were handed in, which stay
+-- what a core is given and keeps: its drivers, and the memory that the machine's pages are, where
+-- its pool lies in it
+pub record Given (D : Type 0) : Type 0 where
+  pub drivers : List D
+  pub memory : Option PoolMemory
+
+abbrev pub given_of : {D : Type 0} → List D → Option PoolMemory → Given D
+given_of drivers memory = record { drivers = drivers; memory = memory }
+
+-- the state of the machine, and what the core was given
 pub record CoreValue (D : Type 0) : Type 0 where
   pub state : State
-  pub drivers : List D
+  pub given : Given D
 
-abbrev pub core_of : {D : Type 0} → Parts → Bool → ℕ → List D → CoreValue D
-core_of parts exited calls_left drivers =
+-- the core of a machine before any call, with what it is given
+abbrev pub new_core : {D : Type 0} → MachineValue → List D → Option PoolMemory → CoreValue D
+new_core machine drivers memory =
+    record { state = first_state machine; given = given_of drivers memory }
+
+abbrev pub core_of : {D : Type 0} → Parts → Bool → ℕ → Given D → CoreValue D
+core_of parts exited calls_left given =
     record {
       state = record { parts = parts; exited = exited; calls_left = calls_left };
-      drivers = drivers;
+      given = given;
     }

@@ -1,7 +1,7 @@
 -- What a call does: one step of the machine; and what calls do one after another: a run of calls.
 use Rattle.std.specs.Prelude.{◌≡◌, ◌≢◌, ℕ, ◌+◌, Bool, true, false, List, [], ◌∷◌, length, map, Result, Ok, Err, Vec}
 use Rattle.page_ranges.specs.declared.statuses.Status.{Status}
-use Rattle.page_ranges.specs.declared.statuses.Status.TheVariants.{InvalidParameter, Unsupported}
+use Rattle.page_ranges.specs.declared.statuses.Status.TheVariants.{InvalidParameter, OutOfResources, Unsupported}
 use Rattle.page_services.specs.PageRules.{Book, Choice, IsAnyStart, IsBestChoice, AllocatesPages, FreesPages}
 use Rattle.pool_services.specs.Extents.{Extent}
 use Rattle.pool_services.specs.PoolRules.{AllocatesPool, FreesPool, ReadsPool, WritesPool}
@@ -93,6 +93,12 @@ ServesSearch {A = A} exited old new answer Rule =
 
 -- ---- the services
 
+-- What FreePool does. Memory never runs out, as it is reserved for the end of each extent.
+abbrev pub FreesBlock : Parts → ℕ → Result (Unit {0}) Status → Parts → Type 0
+FreesBlock old address result new =
+    (result ≢ Err OutOfResources)
+    × OnBookAndPools (FreesPool old.book old.pools address result) old new
+
 -- what ExitBootServices returns with a key, where the other is the current one
 abbrev pub Exits : ℕ → ℕ → Result (Unit {0}) Status → Type 0
 Exits current key (Ok done) = key ≡ current
@@ -116,7 +122,7 @@ Answers S exited old (call.AllocatePool t size) answer new =
     (λ result. OnBookAndPools (AllocatesPool S.chosen old.book old.pools t size result) old new)
 Answers S exited old (call.FreePool address) answer new =
     Serves exited old new answer reply.FreePool
-    (λ result. OnBookAndPools (FreesPool old.book old.pools address result) old new)
+    (λ result. FreesBlock old address result new)
 Answers S exited old (call.PoolRead address size) answer new =
     ServesBytes exited old new answer reply.PoolRead
     (λ status bytes. AnswersRead old.pools address size status bytes × (new ≡ old)) Unsupported
@@ -212,7 +218,7 @@ StepAny ds old c answer new = StepBy (any_starts ds) old c answer new
 -- a call of a core with its drivers returns this reply and leaves this core
 abbrev pub Calls : {D A : Type 0} → (D → Meaning) → CoreValue D → Call A → Reply A
     → CoreValue D → Type 0
-Calls meaning old c answer new = Step (map meaning old.drivers) old.state c answer new.state
+Calls meaning old c answer new = Step (map meaning old.given.drivers) old.state c answer new.state
 
 -- What GetMemoryMap does with a buffer of the caller's: its reply, the buffer after it, and the
 -- machine, which is as it was but for one call less.

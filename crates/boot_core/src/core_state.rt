@@ -1,8 +1,8 @@
 //! The core: the state of the boot services.
-ghost use Rattle.std.specs.Prelude.{◌≡◌, ◌+◌, ◌<◌, ◌≤◌, ◌^◌, [], length, map, IfOk, OnErr, OnOk, slice_get, if◌then◌else◌};
+ghost use Rattle.std.specs.Prelude.{◌≡◌, ◌+◌, ◌<◌, ◌≤◌, ◌^◌, [], length, map, IfOk, None, OnErr, OnOk, Some, slice_get, if◌then◌else◌};
 ghost use Rattle.page_ranges.specs.Memory.{IsProperMemory};
 ghost use Rattle.page_ranges.specs.MemoryMap.{memory_map};
-ghost use Rattle.boot_core.specs.Machines.{certifying_state, first_state, leaving, most_calls, preparing_state, FollowsCalls, IsUnused};
+ghost use Rattle.boot_core.specs.Machines.{certifying_state, leaving, most_calls, new_core, preparing_state, FollowsCalls, IsUnused};
 ghost use Rattle.boot_core.specs.PathSteps.{LocateStep};
 ghost use Rattle.boot_core.specs.Steps.{IsCounted, MapStep, ReadStep, Calls, CallRun};
 
@@ -46,37 +46,36 @@ pub struct Core<D = Box<dyn Driver>, A: Allocator = Global> {
 }
 
 impl<D, A: Allocator> Model for Core<D, A> {
-    ghost use Rattle.boot_core.specs.Machines.{CoreValue, AreSound, FollowsCalls, core_of, parts_of};
+    ghost use Rattle.boot_core.specs.Machines.{CoreValue, AreSound, FollowsCalls, core_of, given_of, parts_in};
 
     ghost Value = { CoreValue D };
 
     ghost view = { λ c.
-        core_of (parts_of c.book c.pools c.protocols) c.exited c.calls_left c.drivers.items };
+        core_of (parts_in c.book c.pools c.protocols) c.exited c.calls_left
+        (given_of c.drivers.items c.pools.memory) };
 
-    ghost invariant = { λ c. FollowsCalls (parts_of c.book c.pools c.protocols) c.calls_left
-        × AreSound (parts_of c.book c.pools c.protocols) };
+    ghost invariant = { λ c. FollowsCalls (parts_in c.book c.pools c.protocols) c.calls_left
+        × AreSound (parts_in c.book c.pools c.protocols) };
 }
 
 impl<D: Driver, A: Allocator + Copy> Core<D, A> {
     /// The core of a machine, before any call; it returns certificates. The value of a driver binding
     /// interface is the index of its driver.
     pub fn new(alloc: A, machine: Machine<A>, drivers: Vec<D, A>) -> Result<Core<D, A>, AllocError>
-        ensures { IfOk result
-            (λ c. c ≡ record { state = first_state machine; drivers = drivers.items }) }
+        ensures { IfOk result (λ c. c ≡ new_core machine drivers.items None) }
     {
         Core::with_pools(alloc, machine, drivers, Pools::new(alloc))
     }
 
     /// The same, whose pool lies in memory that the machine's pages are, so that the bytes of a block are those at its
-    /// address (`Regions` of `pool_services`).
+    /// address.
     pub fn over(
         alloc: A,
         machine: Machine<A>,
         drivers: Vec<D, A>,
         memory: PoolMemory,
     ) -> Result<Core<D, A>, AllocError>
-        ensures { IfOk result
-            (λ c. c ≡ record { state = first_state machine; drivers = drivers.items }) }
+        ensures { IfOk result (λ c. c ≡ new_core machine drivers.items (Some memory)) }
     {
         Core::with_pools(alloc, machine, drivers, Pools::over(alloc, memory))
     }
@@ -88,9 +87,8 @@ impl<D: Driver, A: Allocator + Copy> Core<D, A> {
         drivers: Vec<D, A>,
         pools: Pools<A>,
     ) -> Result<Core<D, A>, AllocError>
-        requires { pools ≡ [] }
-        ensures { IfOk result
-            (λ c. c ≡ record { state = first_state machine; drivers = drivers.items }) }
+        requires { pools.extents ≡ [] }
+        ensures { IfOk result (λ c. c ≡ new_core machine drivers.items pools.memory) }
     {
         let table = RunTable::from_runs(alloc, machine.runs())?;
         Ok(Core {
@@ -129,7 +127,7 @@ impl<D: Driver, A: Allocator + Copy> Core<D, A> {
         ensures parts { self.new.state.parts ≡ self.old.state.parts }
         ensures exited { self.new.state.exited ≡ self.old.state.exited }
         ensures calls_left { self.new.state.calls_left ≡ calls }
-        ensures drivers { self.new.drivers ≡ self.old.drivers }
+        ensures given { self.new.given ≡ self.old.given }
     {
         self.calls_left = calls;
     }
@@ -155,7 +153,7 @@ impl<D: Driver, A: Allocator + Copy> Core<D, A> {
         ensures room { self.new.state.parts.book.key + self.new.state.calls_left ≤ most_calls }
         ensures follows { FollowsCalls self.new.state.parts (self.new.state.calls_left + 1) }
         ensures registrations { length self.new.state.parts.lists.registrations < 2 ^ 62 }
-        ensures drivers { self.new.drivers ≡ self.old.drivers }
+        ensures given { self.new.given ≡ self.old.given }
     {
         self.calls_left -= 1;
         if self.exited {
@@ -183,7 +181,7 @@ impl<D: Driver, A: Allocator + Copy> Core<D, A> {
         requires { 0 < self.old.state.calls_left }
         ensures step { Calls D.meaning self.old
             (Call.AllocatePages kind mtype pages memory) (Reply.AllocatePages result) self.new }
-        ensures drivers { self.new.drivers ≡ self.old.drivers }
+        ensures given { self.new.given ≡ self.old.given }
     {
         match self.begin() {
             Ok(()) => self.book.allocate(kind, mtype, pages, memory),
@@ -201,7 +199,7 @@ impl<D: Driver, A: Allocator + Copy> Core<D, A> {
         requires { 0 < self.old.state.calls_left }
         ensures step { Calls {A = A} D.meaning self.old
             (Call.FreePages memory pages) (Reply.FreePages result) self.new }
-        ensures drivers { self.new.drivers ≡ self.old.drivers }
+        ensures given { self.new.given ≡ self.old.given }
     {
         match self.begin() {
             Ok(()) => self.book.free(memory, pages),
@@ -215,7 +213,7 @@ impl<D: Driver, A: Allocator + Copy> Core<D, A> {
     pub fn get_memory_map(&mut self, buffer: &mut [u8]) -> MapReply
         requires { 0 < self.old.state.calls_left }
         ensures step { MapStep self.old.state buffer.old result buffer.new self.new.state }
-        ensures drivers { self.new.drivers ≡ self.old.drivers }
+        ensures given { self.new.given ≡ self.old.given }
     {
         match self.begin() {
             Ok(()) => get_memory_map(&self.book, buffer),
@@ -227,7 +225,7 @@ impl<D: Driver, A: Allocator + Copy> Core<D, A> {
     fn get_map_bytes(&mut self, size: u64) -> Reply<A>
         requires { 0 < self.old.state.calls_left }
         ensures step { Calls D.meaning self.old (Call.GetMemoryMap size) result self.new }
-        ensures drivers { self.new.drivers ≡ self.old.drivers }
+        ensures given { self.new.given ≡ self.old.given }
     {
         match self.begin() {
             Ok(()) => {
@@ -251,7 +249,7 @@ impl<D: Driver, A: Allocator + Copy> Core<D, A> {
         requires { 0 < self.old.state.calls_left }
         ensures step { Calls {A = A} D.meaning self.old
             (Call.AllocatePool mtype size) (Reply.AllocatePool result) self.new }
-        ensures drivers { self.new.drivers ≡ self.old.drivers }
+        ensures given { self.new.given ≡ self.old.given }
     {
         match self.begin() {
             Ok(()) => self.pools.allocate(&mut self.book, mtype, size),
@@ -264,7 +262,7 @@ impl<D: Driver, A: Allocator + Copy> Core<D, A> {
         requires { 0 < self.old.state.calls_left }
         ensures step { Calls {A = A} D.meaning self.old
             (Call.FreePool address) (Reply.FreePool result) self.new }
-        ensures drivers { self.new.drivers ≡ self.old.drivers }
+        ensures given { self.new.given ≡ self.old.given }
     {
         match self.begin() {
             Ok(()) => self.pools.free(&mut self.book, address),
@@ -278,7 +276,7 @@ impl<D: Driver, A: Allocator + Copy> Core<D, A> {
     pub fn pool_read(&mut self, address: u64, buffer: &mut [u8]) -> Status
         requires { 0 < self.old.state.calls_left }
         ensures step { ReadStep self.old.state address buffer.old result buffer.new self.new.state }
-        ensures drivers { self.new.drivers ≡ self.old.drivers }
+        ensures given { self.new.given ≡ self.old.given }
     {
         match self.begin() {
             Ok(()) => returned_status(self.pools.read(address, buffer)),
@@ -290,7 +288,7 @@ impl<D: Driver, A: Allocator + Copy> Core<D, A> {
     fn get_pool_bytes(&mut self, address: u64, size: u64) -> Reply<A>
         requires { 0 < self.old.state.calls_left }
         ensures step { Calls D.meaning self.old (Call.PoolRead address size) result self.new }
-        ensures drivers { self.new.drivers ≡ self.old.drivers }
+        ensures given { self.new.given ≡ self.old.given }
     {
         let alloc = self.book.table().allocator();
         match self.begin() {
@@ -312,7 +310,7 @@ impl<D: Driver, A: Allocator + Copy> Core<D, A> {
         requires { 0 < self.old.state.calls_left }
         ensures step { Calls {A = A} D.meaning self.old
             (Call.PoolWrite address bytes.now) (Reply.PoolWrite result) self.new }
-        ensures drivers { self.new.drivers ≡ self.old.drivers }
+        ensures given { self.new.given ≡ self.old.given }
     {
         match self.begin() {
             Ok(()) => self.pools.write(address, bytes),
@@ -332,7 +330,7 @@ impl<D: Driver, A: Allocator + Copy> Core<D, A> {
         requires { 0 < self.old.state.calls_left }
         ensures step { Calls D.meaning self.old
             (Call.InstallProtocolInterface handle guid kind value) result self.new }
-        ensures drivers { self.new.drivers ≡ self.old.drivers }
+        ensures given { self.new.given ≡ self.old.given }
     {
         Reply::InstallProtocolInterface(match self.begin() {
             Ok(()) => self.protocols.install(handle, guid, kind, value),
@@ -346,7 +344,7 @@ impl<D: Driver, A: Allocator + Copy> Core<D, A> {
         requires { 0 < self.old.state.calls_left }
         ensures step { Calls D.meaning self.old
             (Call.InstallMultipleProtocolInterfaces handle pairs.now) result self.new }
-        ensures drivers { self.new.drivers ≡ self.old.drivers }
+        ensures given { self.new.given ≡ self.old.given }
     {
         Reply::InstallMultipleProtocolInterfaces(match self.begin() {
             Ok(()) => {
@@ -363,7 +361,7 @@ impl<D: Driver, A: Allocator + Copy> Core<D, A> {
         requires { 0 < self.old.state.calls_left }
         ensures step { Calls D.meaning self.old
             (Call.UninstallProtocolInterface handle guid value) result self.new }
-        ensures drivers { self.new.drivers ≡ self.old.drivers }
+        ensures given { self.new.given ≡ self.old.given }
     {
         Reply::UninstallProtocolInterface(match self.begin() {
             Ok(()) => self
@@ -379,7 +377,7 @@ impl<D: Driver, A: Allocator + Copy> Core<D, A> {
         requires { 0 < self.old.state.calls_left }
         ensures step { Calls D.meaning self.old
             (Call.ReinstallProtocolInterface handle guid old_value new_value) result self.new }
-        ensures drivers { self.new.drivers ≡ self.old.drivers }
+        ensures given { self.new.given ≡ self.old.given }
     {
         Reply::ReinstallProtocolInterface(match self.begin() {
             Ok(()) => self.protocols.reinstall(
@@ -399,7 +397,7 @@ impl<D: Driver, A: Allocator + Copy> Core<D, A> {
         requires { 0 < self.old.state.calls_left }
         ensures step { Calls D.meaning self.old
             (Call.RegisterProtocolNotify guid event) result self.new }
-        ensures drivers { self.new.drivers ≡ self.old.drivers }
+        ensures given { self.new.given ≡ self.old.given }
     {
         Reply::RegisterProtocolNotify(match self.begin() {
             Ok(()) => self.protocols.register(guid, event),
@@ -414,7 +412,7 @@ impl<D: Driver, A: Allocator + Copy> Core<D, A> {
         requires { 0 < self.old.state.calls_left }
         ensures step { Calls D.meaning self.old
             (Call.LocateHandle search guid key size) result self.new }
-        ensures drivers { self.new.drivers ≡ self.old.drivers }
+        ensures given { self.new.given ≡ self.old.given }
     {
         Reply::LocateHandle(match self.begin() {
             Ok(()) => self.protocols.locate(search, guid, key, size),
@@ -431,7 +429,7 @@ impl<D: Driver, A: Allocator + Copy> Core<D, A> {
         requires { 0 < self.old.state.calls_left }
         ensures step { Calls D.meaning self.old
             (Call.LocateHandleBuffer search guid key) result self.new }
-        ensures drivers { self.new.drivers ≡ self.old.drivers }
+        ensures given { self.new.given ≡ self.old.given }
     {
         Reply::LocateHandleBuffer(match self.begin() {
             Ok(()) => locate_buffer(
@@ -451,7 +449,7 @@ impl<D: Driver, A: Allocator + Copy> Core<D, A> {
     pub fn locate_protocol(&mut self, guid: Uuid, key: u64) -> Reply<A>
         requires { 0 < self.old.state.calls_left }
         ensures step { Calls D.meaning self.old (Call.LocateProtocol guid key) result self.new }
-        ensures drivers { self.new.drivers ≡ self.old.drivers }
+        ensures given { self.new.given ≡ self.old.given }
     {
         Reply::LocateProtocol(match self.begin() {
             Ok(()) => self.protocols.locate_protocol(guid, key),
@@ -464,7 +462,7 @@ impl<D: Driver, A: Allocator + Copy> Core<D, A> {
         requires { 0 < self.old.state.calls_left }
         ensures step { Calls D.meaning self.old
             (Call.ProtocolsPerHandle handle) result self.new }
-        ensures drivers { self.new.drivers ≡ self.old.drivers }
+        ensures given { self.new.given ≡ self.old.given }
     {
         Reply::ProtocolsPerHandle(match self.begin() {
             Ok(()) => self.protocols.protocols_of(handle),
@@ -484,7 +482,7 @@ impl<D: Driver, A: Allocator + Copy> Core<D, A> {
         requires { 0 < self.old.state.calls_left }
         ensures step { Calls D.meaning self.old
             (Call.OpenProtocol handle guid agent controller attributes) result self.new }
-        ensures drivers { self.new.drivers ≡ self.old.drivers }
+        ensures given { self.new.given ≡ self.old.given }
     {
         Reply::OpenProtocol(match self.begin() {
             Ok(()) => self.protocols.open(
@@ -510,7 +508,7 @@ impl<D: Driver, A: Allocator + Copy> Core<D, A> {
         requires { 0 < self.old.state.calls_left }
         ensures step { Calls D.meaning self.old
             (Call.CloseProtocol handle guid agent controller) result self.new }
-        ensures drivers { self.new.drivers ≡ self.old.drivers }
+        ensures given { self.new.given ≡ self.old.given }
     {
         Reply::CloseProtocol(match self.begin() {
             Ok(()) => self.protocols.close(handle, guid, agent, controller),
@@ -523,7 +521,7 @@ impl<D: Driver, A: Allocator + Copy> Core<D, A> {
         requires { 0 < self.old.state.calls_left }
         ensures step { Calls D.meaning self.old
             (Call.OpenProtocolInformation handle guid) result self.new }
-        ensures drivers { self.new.drivers ≡ self.old.drivers }
+        ensures given { self.new.given ≡ self.old.given }
     {
         Reply::OpenProtocolInformation(match self.begin() {
             Ok(()) => list_opens(
@@ -542,7 +540,7 @@ impl<D: Driver, A: Allocator + Copy> Core<D, A> {
         requires { 0 < self.old.state.calls_left }
         ensures step { Calls D.meaning self.old
             (Call.HandleProtocol handle guid) result self.new }
-        ensures drivers { self.new.drivers ≡ self.old.drivers }
+        ensures given { self.new.given ≡ self.old.given }
     {
         Reply::HandleProtocol(match self.begin() {
             Ok(()) => self.protocols.handle_protocol(handle, guid),
@@ -556,7 +554,7 @@ impl<D: Driver, A: Allocator + Copy> Core<D, A> {
         requires { 0 < self.old.state.calls_left }
         ensures step { Calls D.meaning self.old
             (Call.ConnectController handle named.now recursive) result self.new }
-        ensures drivers { self.new.drivers ≡ self.old.drivers }
+        ensures given { self.new.given ≡ self.old.given }
     {
         Reply::ConnectController(match self.begin() {
             Ok(()) => self
@@ -571,7 +569,7 @@ impl<D: Driver, A: Allocator + Copy> Core<D, A> {
         requires { 0 < self.old.state.calls_left }
         ensures step { Calls D.meaning self.old
             (Call.DisconnectController handle driver) result self.new }
-        ensures drivers { self.new.drivers ≡ self.old.drivers }
+        ensures given { self.new.given ≡ self.old.given }
     {
         Reply::DisconnectController(match self.begin() {
             Ok(()) => self
@@ -587,7 +585,7 @@ impl<D: Driver, A: Allocator + Copy> Core<D, A> {
         requires { 0 < self.old.state.calls_left }
         ensures step { Calls D.meaning self.old
             (Call.LocateDevicePath guid address) result self.new }
-        ensures drivers { self.new.drivers ≡ self.old.drivers }
+        ensures given { self.new.given ≡ self.old.given }
     {
         Reply::LocateDevicePath(match self.begin() {
             Ok(()) => locate(self.protocols.handles(), &self.pools, guid, address),
@@ -600,7 +598,7 @@ impl<D: Driver, A: Allocator + Copy> Core<D, A> {
     pub fn locate_path(&mut self, guid: Uuid, bytes: &[u8]) -> Result<(u64, usize), Status>
         requires { 0 < self.old.state.calls_left }
         ensures step { LocateStep self.old.state guid bytes.now result self.new.state }
-        ensures drivers { self.new.drivers ≡ self.old.drivers }
+        ensures given { self.new.given ≡ self.old.given }
     {
         match self.begin() {
             Ok(()) => locate_bytes(self.protocols.handles(), &self.pools, guid, bytes),
@@ -614,7 +612,7 @@ impl<D: Driver, A: Allocator + Copy> Core<D, A> {
     pub fn exit_boot_services(&mut self, key: u64) -> Reply<A>
         requires { 0 < self.old.state.calls_left }
         ensures step { Calls D.meaning self.old (Call.ExitBootServices key) result self.new }
-        ensures drivers { self.new.drivers ≡ self.old.drivers }
+        ensures given { self.new.given ≡ self.old.given }
     {
         Reply::ExitBootServices(match self.begin() {
             Ok(()) if key != self.book.key() => Err(Status::InvalidParameter),
@@ -630,7 +628,7 @@ impl<D: Driver, A: Allocator + Copy> Core<D, A> {
     pub fn call(&mut self, call: &Call<A>) -> Reply<A>
         requires { 0 < self.old.state.calls_left }
         ensures step { Calls D.meaning self.old call.now result self.new }
-        ensures drivers { self.new.drivers ≡ self.old.drivers }
+        ensures given { self.new.given ≡ self.old.given }
     {
         match call {
             Call::AllocatePages {
@@ -719,9 +717,9 @@ impl<D: Driver, A: Allocator + Copy> Core<D, A> {
     pub fn run(&mut self, calls: &[Call<A>]) -> Result<Vec<Reply<A>, A>, AllocError>
         requires { length calls.now ≤ self.old.state.calls_left }
         ensures runs { IfOk result (λ replies.
-            CallRun (map D.meaning self.old.drivers) self.old.state calls.now replies.items
+            CallRun (map D.meaning self.old.given.drivers) self.old.state calls.now replies.items
             self.new.state) }
-        ensures drivers { self.new.drivers ≡ self.old.drivers }
+        ensures given { self.new.given ≡ self.old.given }
         ensures refused { OnErr result (self.new ≡ self.old) }
     {
         let mut replies = Vec::with_capacity(self.book.table().allocator(), calls.len())?;

@@ -15,7 +15,7 @@ pub fn read_bytes<A: Allocator + Copy>(
     address: u64,
     size: u64,
 ) -> (Status, Vec<u8, A>)
-    ensures { AnswersRead pools.now address size result.0 result.1.items }
+    ensures { AnswersRead pools.now.extents address size result.0 result.1.items }
 {
     let front = match pools.tail(address) {
         Some(bytes) if size <= bytes.len() as u64 => &bytes[..size as usize],

@@ -1,9 +1,9 @@
 //! Lists in pool blocks of their own, which the caller frees.
 ghost use Rattle.std.specs.Prelude.{◌≡◌, ◌<◌, ◌^◌};
 ghost use Rattle.page_services.specs.PageRules.{IsBestChoice};
-ghost use Rattle.pool_services.specs.PoolRules.{HasReservedEnds, OwnsExtents};
+ghost use Rattle.pool_services.specs.PoolRules.{OwnsExtents};
 ghost use Rattle.protocol_services.specs.Lists.{IsRaised};
-ghost use Rattle.boot_core.specs.Machines.{parts_of};
+ghost use Rattle.boot_core.specs.Machines.{parts_in};
 ghost use Rattle.boot_core.specs.PoolLists.{ListsOpens, LocatesBuffer};
 
 use boot_replies::{BOOT_SERVICES_DATA, PoolList};
@@ -28,12 +28,12 @@ pub(crate) fn locate_buffer<A: Allocator + Copy>(
     key: u64,
 ) -> Result<PoolList<A>, Status>
     requires key { book.old.key < 2 ^ 62 }
-    requires owns { OwnsExtents book.old.memory pools.old }
-    requires reserved { HasReservedEnds book.old pools.old }
+    requires owns { OwnsExtents book.old.memory pools.old.extents }
     ensures raised { IsRaised protocols.old protocols.new }
     ensures locates { LocatesBuffer IsBestChoice
-        (parts_of book.old pools.old protocols.old) search guid key result
-        (parts_of book.new pools.new protocols.new) }
+        (parts_in book.old pools.old protocols.old) search guid key result
+        (parts_in book.new pools.new protocols.new) }
+    ensures memory { pools.new.memory ≡ pools.old.memory }
 {
     let found = protocols.find(search, guid, key, u64::MAX);
     if found.status != Status::Success {
@@ -65,11 +65,11 @@ pub(crate) fn list_opens<A: Allocator + Copy>(
     guid: Uuid,
 ) -> Result<PoolList<A>, Status>
     requires key { book.old.key < 2 ^ 62 }
-    requires owns { OwnsExtents book.old.memory pools.old }
-    requires reserved { HasReservedEnds book.old pools.old }
+    requires owns { OwnsExtents book.old.memory pools.old.extents }
     ensures lists { ListsOpens IsBestChoice
-        (parts_of book.old pools.old protocols.now) handle guid result
-        (parts_of book.new pools.new protocols.now) }
+        (parts_in book.old pools.old protocols.now) handle guid result
+        (parts_in book.new pools.new protocols.now) }
+    ensures memory { pools.new.memory ≡ pools.old.memory }
 {
     let items = protocols.items(handle, guid)?;
     if items.is_empty() {

@@ -16,9 +16,9 @@ impl<D: Driver, A: Allocator + Copy> Core<D, A> {
     /// OUT_OF_RESOURCES: memory ran out.
     pub fn uninstall_multiple(&mut self, handle: u64, pairs: &[(Uuid, u64)]) -> Result<(), Status>
         requires { 0 < self.old.state.calls_left }
-        ensures step { UninstallStep (map D.meaning self.old.drivers) self.old.state handle
+        ensures step { UninstallStep (map D.meaning self.old.given.drivers) self.old.state handle
             pairs.now result self.new.state }
-        ensures drivers { self.new.drivers ≡ self.old.drivers }
+        ensures given { self.new.given ≡ self.old.given }
     {
         match self.begin() {
             Ok(()) => self

@@ -3,7 +3,7 @@ use Rattle.std.specs.Prelude.{◌≡◌, ℕ, List, Result, Ok, Err, MatchOption
 use Rattle.boot_core.specs.Machines.{prepared_placements}
 use Rattle.c_machines.specs.declared.drivers.DriverTable.{DriverTable}
 use Rattle.c_interface.specs.EfiCores.{EfiCoreValue, preparing_core}
-use Rattle.c_interface.specs.Making.{MakesCore}
+use Rattle.c_interface.specs.Making.{LiesFrom, MakesCore}
 use Rattle.boot_services_c.specs.Cores.{CoreHeap}
 use Rattle.boot_services_c.specs.Places.{Held}
 use Rattle.boot_services_c.specs.declared.place.Place.{Place}
@@ -19,6 +19,10 @@ IsPreparedCore size records granule tables core =
 abbrev pub Holds : ℕ → List ℕ → ℕ → List DriverTable → Held → Type 0
 Holds size records granule tables held =
     MatchOption held ⊥ (λ handle. IsPreparedCore size records granule tables handle.core)
+
+-- The pool of the core that is held lies in memory whose pages are those of the machine from one on.
+abbrev pub HoldsOver : ℕ → Held → Type 0
+HoldsOver first held = MatchOption held ⊥ (λ handle. LiesFrom first handle.core)
 
 -- No core is made, with this status.
 abbrev pub Refuses : ℕ → List ℕ → ℕ → List DriverTable → ℕ → Type 0

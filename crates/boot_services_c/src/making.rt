@@ -1,9 +1,9 @@
 //! Making and freeing cores.
-ghost use Rattle.std.specs.Prelude.{◌≡◌, ◌<◌, IfSome, MatchOption};
+ghost use Rattle.std.specs.Prelude.{◌≡◌, ◌<◌, IfOk, IfSome, MatchOption};
 ghost use Rattle.std.specs.Borrow.{sem};
 ghost use Rattle.boot_core.specs.Machines.{prepared_placements};
 ghost use Rattle.c_interface.specs.EfiCores.{preparing_core};
-ghost use Rattle.boot_services_c.specs.MadeCores.{Holds, MakesPlace, Refuses};
+ghost use Rattle.boot_services_c.specs.MadeCores.{Holds, HoldsOver, MakesPlace, Refuses};
 ghost use Rattle.boot_services_c.specs.Places.{freed_at};
 
 use crate::blocks::Block;
@@ -67,6 +67,7 @@ pub extern "C" fn RafkudinMakeOver(
     ensures refused { 0 < result
         → Refuses descriptor_size records.now granule drivers.now result }
     ensures kept { 0 < result → core.new ≡ core.old }
+    ensures over { result ≡ 0 → HoldsOver first core.new.held }
 {
     match made_over(
         alloc,
@@ -122,7 +123,8 @@ fn made_over(
     granule: u64,
     drivers: &[DriverTable],
 ) -> Result<Place, u64>
-    ensures { MakesPlace descriptor_size records.now granule drivers.now result }
+    ensures makes { MakesPlace descriptor_size records.now granule drivers.now result }
+    ensures over { IfOk result (λ place. HoldsOver first place.held) }
 {
     if !are_tables(drivers) {
         return Err(Status::InvalidParameter.number());

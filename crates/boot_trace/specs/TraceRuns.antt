@@ -138,16 +138,17 @@ Ends A ds certify bytes old new before after (Err fault.OutOfMemory) =
 abbrev pub CorePrints : {D : Type 0} → (A : Type 0) → (D → Meaning) → Bool → ℕ
     → Result (Option (TraceCall A)) TraceFault → CoreValue D → List ℕ → CoreValue D → Type 0
 CorePrints A meaning certify number asks old text new =
-    Prints A (map meaning old.drivers) certify number asks old.state text new.state
+    Prints A (map meaning old.given.drivers) certify number asks old.state text new.state
 
 abbrev pub CoreStopsAt : {D : Type 0} → (A : Type 0) → (D → Meaning) → Bool → RunFault → ℕ
     → Result (Option (TraceCall A)) TraceFault → CoreValue D → CoreValue D → Type 0
 CoreStopsAt A meaning certify fault number asks old new =
-    StopsAt A (map meaning old.drivers) certify fault number asks old.state new.state
+    StopsAt A (map meaning old.given.drivers) certify fault number asks old.state new.state
 
 abbrev pub CoreEnds : {D : Type 0} → (A : Type 0) → (D → Meaning) → Bool → Option (List ℕ)
     → CoreValue D → CoreValue D → Option (List ℕ) → Option (List ℕ) → Result (Unit {0}) RunFault
     → Type 0
 CoreEnds A meaning certify bytes old new before after end =
     IfSome bytes
-    (λ known. Ends A (map meaning old.drivers) certify known old.state new.state before after end)
+    (λ known. Ends A (map meaning old.given.drivers) certify known old.state new.state before after
+    end)

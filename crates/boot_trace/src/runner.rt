@@ -26,7 +26,7 @@ pub fn run<D: Driver, A: Allocator + Copy, R: Read + Drop, W: Write>(
 ) -> Result<(), RunFault>
     ensures ends { CoreEnds A D.meaning certify (R.remaining reader) core.old core.new
         (W.contents writer.old) (W.contents writer.new) result }
-    ensures drivers { core.new.drivers ≡ core.old.drivers }
+    ensures given { core.new.given ≡ core.old.given }
 {
     let Ok(mut reader) = BufReader::new(alloc, reader) else {
         return Err(RunFault::OutOfMemory);
@@ -70,7 +70,7 @@ pub fn run_line<D: Driver, A: Allocator + Copy>(
     ensures ok { OnOk result
         (CorePrints A D.meaning certify number (line_of line.now) core.old
         (string_bytes text.new) core.new) }
-    ensures drivers { core.new.drivers ≡ core.old.drivers }
+    ensures given { core.new.given ≡ core.old.given }
     ensures err { IfErr result (λ fault.
         CoreStopsAt A D.meaning certify fault number (line_of line.now) core.old core.new) }
 {
@@ -99,7 +99,7 @@ fn make_call<D: Driver, A: Allocator + Copy>(
     ensures ok { OnOk result
         (CorePrints A D.meaning certify number (asking call.now) core.old
         (string_bytes text.new) core.new) }
-    ensures drivers { core.new.drivers ≡ core.old.drivers }
+    ensures given { core.new.given ≡ core.old.given }
     ensures err { IfErr result (λ fault.
         CoreStopsAt A D.meaning certify fault number (asking call.now) core.old core.new) }
 {

@@ -27,5 +27,5 @@ no_block granule entries c returned = tt
 -- A call of a core that keeps nothing of the call before.
 pub forgotten_answers : {A : Type 0} (old new : EfiCoreValue A) (c : Call A) (status : ℕ) → AnswersStatus (forgotten old) c status new → AnswersStatus old c status new
 forgotten_answers old new c status (inl (answer, s, is, nothing)) =
-    inl (answer, record { step = s.step; drivers = s.drivers; certifies = s.certifies; block = s.block; last = s.last }, is, nothing)
+    inl (answer, record { step = s.step; given = s.given; certifies = s.certifies; block = s.block; last = s.last }, is, nothing)
 forgotten_answers old new c status (inr (s, is, nothing)) = inr (record { spent = s.spent; core = s.core }, is, nothing)

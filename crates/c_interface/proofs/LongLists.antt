@@ -25,7 +25,7 @@ answers_for_more {A = A} old new handle ps qs before status after p q (inl (answ
       answer,
       record {
         step = step_for_more (meanings old) old.core.state new.core.state handle ps qs answer p q s.step;
-        drivers = s.drivers;
+        given = s.given;
         certifies = s.certifies;
         block = rw (← no_map A old.certifies _ _ handle ps qs) s.block;
         last = s.last;

@@ -26,7 +26,7 @@ pub record EfiCoreValue (A : Type 0) : Type 0 where
 -- or makes none
 abbrev pub certifying_core : {A : Type 0} → Bool → EfiCoreValue A → EfiCoreValue A
 certifying_core certifies c = record {
-  core = record { state = certifying_state certifies c.core.state; drivers = c.core.drivers };
+  core = record { state = certifying_state certifies c.core.state; given = c.core.given };
   certifies = certifies;
   last = c.last;
   block = c.block;
@@ -36,7 +36,7 @@ certifying_core certifies c = record {
 -- what they place
 abbrev pub preparing_core : {A : Type 0} → ℕ → EfiCoreValue A → EfiCoreValue A
 preparing_core placements c = record {
-  core = record { state = preparing_state placements c.core.state; drivers = c.core.drivers };
+  core = record { state = preparing_state placements c.core.state; given = c.core.given };
   certifies = c.certifies;
   last = c.last;
   block = c.block;
@@ -60,7 +60,7 @@ table_meaning d =
 
 -- what the drivers of a core mean
 abbrev pub meanings : {A : Type 0} → EfiCoreValue A → List Meaning
-meanings c = map table_meaning c.core.drivers
+meanings c = map table_meaning c.core.given.drivers
 
 -- What is left of a call, where the memory map before it was kept and its reply carries a
 -- certificate for a request: their block. Where no map was kept, or there is no certificate,

@@ -24,7 +24,7 @@ StatusOfFault fault status left = (status ≡ status_number OutOfResources) × (
 
 -- Nothing but the state and what is left of the last call changes.
 pub record KeepsCore {A : Type 0} (old new : EfiCoreValue A) : Type 0 where
-  pub drivers : new.core.drivers ≡ old.core.drivers
+  pub given : new.core.given ≡ old.core.given
   pub certifies : new.certifies ≡ old.certifies
   pub last : new.last ≡ None
 

@@ -1,7 +1,8 @@
 -- What a core is made of that a caller in C asks for.
-use Rattle.std.specs.Prelude.{◌≡◌, ◌⊎◌, ℕ, true, false, List, map, None, Result, Ok, Err}
+use Rattle.std.specs.Prelude.{◌≡◌, ◌⊎◌, ℕ, true, false, List, map, None, Some, Result, Ok, Err}
 use Rattle.page_ranges.specs.Statuses.{status_number}
 use Rattle.page_ranges.specs.declared.statuses.Status.TheVariants.{InvalidParameter, OutOfResources}
+use Rattle.raw_pool.specs.declared.pages.numbered.PoolMemory.{PoolMemory}
 use Rattle.boot_machines.specs.Machines.{MachineValue, IsMachine}
 use Rattle.boot_core.specs.Machines.{first_state_with, leaving, most_calls}
 use Rattle.c_machines.specs.declared.drivers.DriverTable.{DriverTable}
@@ -25,10 +26,15 @@ pub record IsMadeCore {A : Type 0} (size : ℕ) (records : List ℕ) (granule : 
   pub is_returned : IsReturned size records granule machine
   pub state : c.core.state ≡ leaving most_calls (first_state_with false machine)
   pub are_tables : are_tables tables ≡ true
-  pub drivers : map returned c.core.drivers ≡ map driver_in tables
+  pub drivers : map returned c.core.given.drivers ≡ map driver_in tables
   pub certifies : c.certifies ≡ false
   pub last : c.last ≡ None
   pub block : c.block ≡ block.Nothing
+
+-- The pool of a core lies in memory whose pages are those of the machine from one on.
+abbrev pub LiesFrom : {A : Type 0} → ℕ → EfiCoreValue A → Type 0
+LiesFrom first c =
+    (memory : PoolMemory) × (c.core.given.memory ≡ Some memory) × (memory.first ≡ first)
 
 -- What is made: the core that the records and tables describe. INVALID_PARAMETER says that the
 -- records describe no machine, or that the tables are none of drivers; else memory ran out, which

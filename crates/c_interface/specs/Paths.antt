@@ -46,7 +46,7 @@ most_path_calls = 4
 -- last call
 pub record IsLeft {A : Type 0} (old : EfiCoreValue A) (reply : Reply A) (new : EfiCoreValue A)
     : Type 0 where
-  pub drivers : new.core.drivers ≡ old.core.drivers
+  pub given : new.core.given ≡ old.core.given
   pub certifies : new.certifies ≡ old.certifies
   pub last : new.last ≡ Some reply
   pub block : new.block ≡ old.block

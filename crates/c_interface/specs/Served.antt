@@ -29,7 +29,7 @@ aborted = 0x8000000000000015
 pub record Serves {A : Type 0} (old : EfiCoreValue A) (c : Call A) (answer : Reply A)
     (new : EfiCoreValue A) : Type 0 where
   pub step : Step (meanings old) old.core.state c answer new.core.state
-  pub drivers : new.core.drivers ≡ old.core.drivers
+  pub given : new.core.given ≡ old.core.given
   pub certifies : new.certifies ≡ old.certifies
   pub block : LeavesBlock old.certifies (kept_map old.certifies old.core.state c)
       (certified old.core.state.parts.book.granule c answer) new.block
@@ -150,7 +150,7 @@ returned_places returned status before = before
 -- what a call leaves that fills a buffer of the caller's: neither a reply nor a block to be asked
 -- for
 pub record LeavesNothing {A : Type 0} (old new : EfiCoreValue A) : Type 0 where
-  pub drivers : new.core.drivers ≡ old.core.drivers
+  pub given : new.core.given ≡ old.core.given
   pub certifies : new.certifies ≡ old.certifies
   pub last : new.last ≡ None
   pub block : new.block ≡ block.Nothing

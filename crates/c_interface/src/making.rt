@@ -1,6 +1,6 @@
 //! Making a core.
-ghost use Rattle.std.specs.Prelude.{◌≡◌, IfOk};
-ghost use Rattle.boot_core.specs.Machines.{first_state};
+ghost use Rattle.std.specs.Prelude.{◌≡◌, IfOk, None, Some};
+ghost use Rattle.boot_core.specs.Machines.{new_core};
 ghost use Rattle.page_ranges.specs.Statuses.{status_number};
 ghost use Rattle.c_interface.specs.Making.{MakesCore, fault_status};
 
@@ -25,7 +25,8 @@ impl<A: Allocator + Copy> EfiCore<A> {
         granule: u64,
         tables: &[DriverTable],
     ) -> Result<EfiCore<A>, u64>
-        ensures { MakesCore descriptor_size records.now granule tables.now result }
+        ensures makes { MakesCore descriptor_size records.now granule tables.now result }
+        ensures memory { IfOk result (λ c. c.core.given.memory ≡ None) }
     {
         EfiCore::make_with(alloc, records, descriptor_size, granule, tables, None)
     }
@@ -40,7 +41,8 @@ impl<A: Allocator + Copy> EfiCore<A> {
         tables: &[DriverTable],
         memory: PoolMemory,
     ) -> Result<EfiCore<A>, u64>
-        ensures { MakesCore descriptor_size records.now granule tables.now result }
+        ensures makes { MakesCore descriptor_size records.now granule tables.now result }
+        ensures memory { IfOk result (λ c. c.core.given.memory ≡ Some memory) }
     {
         let memory = Some(memory);
         EfiCore::make_with(alloc, records, descriptor_size, granule, tables, memory)
@@ -55,7 +57,8 @@ impl<A: Allocator + Copy> EfiCore<A> {
         tables: &[DriverTable],
         memory: Option<PoolMemory>,
     ) -> Result<EfiCore<A>, u64>
-        ensures { MakesCore descriptor_size records.now granule tables.now result }
+        ensures makes { MakesCore descriptor_size records.now granule tables.now result }
+        ensures memory { IfOk result (λ c. c.core.given.memory ≡ memory) }
     {
         if !are_tables(tables) {
             return Err(Status::InvalidParameter.number());
@@ -86,8 +89,7 @@ fn core_of<A: Allocator + Copy>(
     drivers: Vec<TableDriver, A>,
     memory: Option<PoolMemory>,
 ) -> Result<Core<TableDriver, A>, AllocError>
-    ensures { IfOk result
-        (λ c. c ≡ record { state = first_state machine; drivers = drivers.items }) }
+    ensures { IfOk result (λ c. c ≡ new_core machine drivers.items memory) }
 {
     match memory {
         Some(memory) => Core::over(alloc, machine, drivers, memory),

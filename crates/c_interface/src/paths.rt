@@ -94,7 +94,7 @@ impl<A: Allocator + Copy> EfiCore<A> {
         ensures run { RunsUntilRefused (meanings self.old) self.old.core.state
             (path_calls handle path.now block) result self.new.core.state }
         ensures counted { self.old.core.state.calls_left ≤ self.new.core.state.calls_left + 2 }
-        ensures drivers { self.new.core.drivers ≡ self.old.core.drivers }
+        ensures given { self.new.core.given ≡ self.old.core.given }
         ensures others { self.new ≡ with_core self.old self.new.core }
     {
         let pair = [(device_path_guid(), block)];

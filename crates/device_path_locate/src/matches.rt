@@ -29,7 +29,7 @@ pub fn device_path_guid() -> Uuid
 
 /// The bytes of all nodes of the path at an address, if there is one.
 fn whole_at<A: Allocator + Copy>(pools: &Pools<A>, address: u64) -> Option<&[u8]>
-    ensures { option_map (λ s. s.now) result ≡ whole_bytes (path_at address pools.now) }
+    ensures { option_map (λ s. s.now) result ≡ whole_bytes (path_at address pools.now.extents) }
 {
     let bytes = pools.tail(address)?;
     let span = read_path(bytes)?;
@@ -52,7 +52,8 @@ fn whole_of<'a, A: Allocator + Copy>(
     pools: &'a Pools<A>,
     handle: u64,
 ) -> Option<&'a [u8]>
-    ensures { option_map (λ s. s.now) result ≡ whole_bytes (path_of handles.now pools.now handle) }
+    ensures { option_map (λ s. s.now) result
+        ≡ whole_bytes (path_of handles.now pools.now.extents handle) }
 {
     whole_at(pools, handles.interface(handle, device_path_guid())?)
 }
@@ -69,7 +70,7 @@ fn match_of<A: Allocator + Copy>(
 ) -> Option<(u64, usize)>
     requires boundary { IsBoundary nodes.now from }
     requires marked { AllByRecursion (IsBoundary nodes.now) marks.now }
-    ensures found { IsMatch handles.now pools.now handle nodes.now from result }
+    ensures found { IsMatch handles.now pools.now.extents handle nodes.now from result }
     ensures boundary { IfSome result (λ m. IsBoundary nodes.now m.1) }
 {
     let path = pools.tail(handles.interface(handle, device_path_guid())?)?;
@@ -107,7 +108,7 @@ fn best_from<A: Allocator + Copy>(
     marks: &[usize],
 ) -> Option<(u64, usize)>
     requires { AllByRecursion (IsBoundary nodes.now) marks.now }
-    ensures found { IsBestMatch handles.now pools.now guid nodes.now result }
+    ensures found { IsBestMatch handles.now pools.now.extents guid nodes.now result }
     ensures within { IfSome result (λ m. m.1 ≤ length nodes.now) }
 {
     let holders = handles.by_protocol(guid);
@@ -129,7 +130,7 @@ fn best_of_many<A: Allocator + Copy>(
     guid: Uuid,
     nodes: &[u8],
 ) -> Option<(u64, usize)>
-    ensures found { IsBestMatch handles.now pools.now guid nodes.now result }
+    ensures found { IsBestMatch handles.now pools.now.extents guid nodes.now result }
     ensures within { IfSome result (λ m. m.1 ≤ length nodes.now) }
 {
     best_from(handles, pools, guid, nodes, &marks_of(nodes))
@@ -143,7 +144,7 @@ fn best_match<A: Allocator + Copy>(
     guid: Uuid,
     nodes: &[u8],
 ) -> Option<(u64, usize)>
-    ensures found { IsBestMatch handles.now pools.now guid nodes.now result }
+    ensures found { IsBestMatch handles.now pools.now.extents guid nodes.now result }
     ensures within { IfSome result (λ m. m.1 ≤ length nodes.now) }
 {
     if nodes.len() <= UNMARKED {
@@ -166,7 +167,7 @@ pub fn locate_bytes<A: Allocator + Copy>(
     guid: Uuid,
     bytes: &[u8],
 ) -> Result<(u64, usize), Status>
-    ensures found { result ≡ located_bytes handles.now pools.now guid bytes.now }
+    ensures found { result ≡ located_bytes handles.now pools.now.extents guid bytes.now }
     ensures within { IfOk result (λ m. m.1 < length bytes.now) }
 {
     let Some(nodes) = first_instance_in(bytes) else {
@@ -188,7 +189,7 @@ pub fn locate<A: Allocator + Copy>(
     guid: Uuid,
     address: u64,
 ) -> Result<(u64, u64), Status>
-    ensures { result ≡ located handles.now pools.now guid address }
+    ensures { result ≡ located handles.now pools.now.extents guid address }
 {
     let bytes = pools.tail(address).ok_or(Status::InvalidParameter)?;
     let (handle, size) = locate_bytes(handles, pools, guid, bytes)?;
@@ -208,7 +209,7 @@ fn are_same(bytes: Option<&[u8]>, other: Option<&[u8]>) -> bool
 
 /// Whether the path at an address is the path of some live handle too.
 fn is_path_of_any<A: Allocator + Copy>(handles: &Handles<A>, pools: &Pools<A>, address: u64) -> bool
-    ensures { result ≡ is_path_of_any handles.now pools.now address }
+    ensures { result ≡ is_path_of_any handles.now pools.now.extents address }
 {
     let bytes = whole_at(pools, address);
     handles.by_protocol(device_path_guid()).iter().any(|handle| are_same(
@@ -225,7 +226,7 @@ pub fn has_path_installed<A: Allocator + Copy>(
     pools: &Pools<A>,
     pairs: &[(Uuid, u64)],
 ) -> bool
-    ensures { result ≡ has_path_installed handles.now pools.now pairs.now }
+    ensures { result ≡ has_path_installed handles.now pools.now.extents pairs.now }
 {
     pairs.iter().any(|pair| pair.0 == device_path_guid() && is_path_of_any(handles, pools, pair.1))
 }

@@ -533,10 +533,12 @@ impl<A: Allocator + Copy> PageBook<A> {
         self.key
     }
 
-    /// The machine's granule in pages, 1 or 16.
+    /// The machine's granule in pages, 1 or 16. Where one page of a granule was placed by AllocatePages with a
+    /// type that fills granules, all of its pages were.
     pub fn granule(&self) -> u64
         ensures granule { result ≡ self.now.granule }
         ensures valid { IsGranule result }
+        ensures whole { IsInGranules self.now }
     {
         self.granule
     }

@@ -1,10 +1,11 @@
 -- What the calls do to one extent of the pool.
-use Rattle.std.proofs.Common.{◌≡◌, ◌≢◌, ℕ, zero, suc, ◌+◌, ◌<◌, ◌≤◌, ◌==◌, nat_le, slice_index_or, Result, Ok, Err, eq-eqb, ne_eqb, add-one, Bool, true, false, is_some, inl, inr, List, [], ◌∷◌, ◌++◌, length, take, drop, set, Option, Some, None, refl, sym, ap, ◌∙◌, arith, subst}
+use Rattle.std.proofs.Common.{◌≡◌, ◌≢◌, ℕ, zero, suc, ◌+◌, ◌<◌, ◌≤◌, ◌==◌, nat_le, slice_index_or, Ok, Err, eq-eqb, ne_eqb, add-one, Bool, true, false, is_some, inl, inr, List, [], ◌∷◌, ◌++◌, length, take, drop, set, Option, Some, None, refl, sym, ap, ◌∙◌, arith, subst}
 use Rattle.std.specs.List.{insert}
 use Rattle.std.specs.Bool.{IsTrue}
 use Rattle.page_ranges.specs.declared.ranges.PageRange.{PageRange}
 use Rattle.page_ranges.specs.declared.statuses.Status.{Status}
-use Rattle.page_services.specs.PageRules.{Book, ended_book, given_back}
+use Rattle.page_ranges.specs.declared.statuses.Status.TheVariants.{OutOfResources}
+use Rattle.page_services.specs.PageRules.{Book, GivesFromPool, ended_book, given_back}
 use Rattle.pool_services.specs.PoolRules.{FreesPool, IsInBlock, OwnsExtents, extent_type, given_if, pool_type}
 use Rattle.page_ranges.specs.Memory.{Page, page_at, retyped, AllInRange, IsOwnedBy}
 use Rattle.page_ranges.specs.MemoryTypes.{conventional}
@@ -217,25 +218,32 @@ freed-in b es address i c new (e, h, k, p, a) (x, g, n, d, o) =
     let q : record { first = x.first; cell = c } ≡ record { first = e.first; cell = c } = ap (λ (z : Extent). record { first = z.first; cell = c }) same in
     (record { first = x.first; cell = c }, p ∙ ap (λ (z : Place). Some z) (sym q), sym (ap (λ (o : Option PageRange). given_if o b) d), n)
 
--- an extent ended, which no lack of memory prevents
-abbrev pub IsEnded : ℕ → Book → List Extent → Result (Unit {0}) Status → Book → List Extent → Type 0
-IsEnded i b es (Ok done) new_b new =
+-- the block that is found is the only one of its extent, which so ends
+only-ends : (es : List Extent) (i c : ℕ) (e : Extent) → IsAt es i e → AreExtents es → HasOneBlock i es → is_some (block_at c e.blocks) ≡ true → (without_block c e.blocks ≡ []) × (ended (record { first = e.first; cell = c }) es ≡ Some (range_of e))
+only-ends es i c e h a (x, s, l) k =
+    let le : length e.blocks ≡ 1 = subst (λ (z : Extent). length z.blocks ≡ 1) (same-at es i x e s h) l in
+    let none : without_block c e.blocks ≡ [] = none-left (without_block c e.blocks) (omega (arith, le, count-without c e.blocks k)) in
+    (none, ended-at c es i e a h ∙ ap (λ (bs : List Block). range_if_ended e bs) none)
+
+-- an extent ended
+abbrev pub IsEnded : ℕ → Book → List Extent → Book → List Extent → Type 0
+IsEnded i b es new_b new =
     (e : Extent) × IsAt es i e × (new_b ≡ given_back (range_of e) b)
     × (new ≡ take i es ++ drop (i + 1) es)
-IsEnded i b es (Err status) new_b new = ⊥
 
-pub freed-ended : (b : Book) (es : List Extent) (address i c : ℕ) (result : Result (Unit {0}) Status) (new_b : Book) (new : List Extent) → IsFound address es (Some (i, c)) → HasOneBlock i es → IsEnded i b es result new_b new → FreesPool b es address result new_b new
-freed-ended b es address i c (Ok done) new_b new (e, h, k, p, a) (x, s, l) (y, g, nb, n) =
-    let xe : x ≡ e = same-at es i x e s h in
-    let le : length e.blocks ≡ 1 = subst (λ (z : Extent). length z.blocks ≡ 1) xe l in
-    let none : without_block c e.blocks ≡ [] = none-left (without_block c e.blocks) (omega (arith, le, count-without c e.blocks k)) in
-    let range : ended (record { first = e.first; cell = c }) es ≡ Some (range_of e) = ended-at c es i e a h ∙ ap (λ (bs : List Block). range_if_ended e bs) none in (
+pub freed-ended : (b : Book) (es : List Extent) (address i c : ℕ) (new_b : Book) (new : List Extent) → IsFound address es (Some (i, c)) → HasOneBlock i es → IsEnded i b es new_b new → FreesPool b es address (Ok tt) new_b new
+freed-ended b es address i c new_b new (e, h, k, p, a) o (y, g, nb, n) =
+    let (none, range) = only-ends es i c e h a o k in (
       record { first = e.first; cell = c },
       p,
       nb ∙ ap (λ (z : Extent). given_back (range_of z) b) (same-at es i y e g h) ∙ sym (ap (λ (o : Option PageRange). given_if o b) range),
       n ∙ ap (λ (j : ℕ). take i es ++ drop j es) (add-one i) ∙ gone-is (λ (z : Extent). left_of z (without_block c z.blocks)) es i e a h (ap (λ (bs : List Block). left_of e bs) none),
     )
-freed-ended b es address i c (Err status) new_b new f o n = absurd n
+
+-- The book refuses to give the pages of an extent back, and all stays.
+pub refused-end : (b : Book) (es : List Extent) (address i c : ℕ) (range : PageRange) (status : Status) (new_b : Book) → IsFound address es (Some (i, c)) → HasOneBlock i es → GivesFromPool b range (Err status) new_b → FreesPool b es address (Err status) new_b es
+refused-end b es address i c range OutOfResources new_b (e, h, k, p, a) o (same, none) = (record { first = e.first; cell = c }, range_of e, p, (only-ends es i c e h a o k).1, none, same, refl)
+refused-end b es address i c range status new_b f o g = absurd g
 
 pub owns-new-block : (m : List Page) (t size address : ℕ) (es new : List Extent) → OwnsExtents m es → IsTakenLive t size es (Some address) new → OwnsExtents m new
 owns-new-block m t size address es new owns (p, f, d, n) k =

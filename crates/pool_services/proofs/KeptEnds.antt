@@ -5,13 +5,11 @@ use Rattle.page_ranges.specs.declared.ranges.Owner.TheVariants.{Pool}
 use Rattle.page_ranges.specs.declared.ranges.PageRange.{PageRange}
 use Rattle.page_ranges.specs.declared.statuses.Status.{Status}
 use Rattle.page_ranges.specs.declared.statuses.Status.TheVariants.{InvalidParameter, NotFound, OutOfResources}
-use Rattle.page_ranges.specs.Granules.{IsGranule}
-use Rattle.page_ranges.specs.Memory.{Page, IsProperMemory}
+use Rattle.page_ranges.specs.Memory.{Page}
 use Rattle.page_services.specs.declared.page_book.Placed.{Placed}
-use Rattle.page_services.specs.PageRules.{Book, Choice, AllocatesPages, FreesPages, GivesFromPool, IsInGranules, given_back, new_book, placed_book}
-use Rattle.page_services.proofs.Choices.{Permits}
+use Rattle.page_services.specs.PageRules.{Book, Choice, AllocatesPages, FreesPages, given_back, new_book, placed_book}
 use Rattle.raw_pool.specs.Blocks.{Block, new_block, with_block, without_block}
-use Rattle.pool_services.specs.Extents.{Extent, Place, AreExtents, begins_at, ended, first_fit, has_tail, left_of, new_extent, range_if_ended, replaced, with_blocks, with_extent, with_new_block, without, written, written_in}
+use Rattle.pool_services.specs.Extents.{Extent, Place, begins_at, ended, first_fit, has_tail, left_of, new_extent, range_if_ended, replaced, with_blocks, with_extent, with_new_block, without, written, written_in}
 use Rattle.pool_services.specs.PoolRules.{Answer, AllocatesPool, FillsPool, FreesPool, HasReservedEnds, IsPut, WritesPool, given_if}
 use Rattle.pool_services.specs.Searches.{IsGivenIn, IsTakenLive}
 
@@ -77,20 +75,20 @@ new-ends granule m = omega arith
 pub same-ends : (b new_b : Book) (es new : List Extent) → HasReservedEnds b es → new_b ≡ b → new ≡ es → HasReservedEnds new_b new
 same-ends b new_b es new r g n = subst (λ (x : Book). HasReservedEnds x new) (sym g) (subst (HasReservedEnds b) (sym n) r)
 
-pub placed-ends : {A : Type 0} (Chosen : Choice) → Permits Chosen → (b : Book) (es : List Extent) (kind t pages memory : ℕ) (result : Result (Placed A) Status) (new : Book) →
-    IsProperMemory b.memory → HasReservedEnds b es → AllocatesPages Chosen b kind t pages memory result new → HasReservedEnds new es
-placed-ends Chosen permits b es kind t pages memory (Ok placed) new proper r (v, h, n) = subst (λ (x : Book). HasReservedEnds x es) (sym n) r
-placed-ends Chosen permits b es kind t pages memory (Err InvalidParameter) new proper r h = same-ends b new es es r h.1 refl
-placed-ends Chosen permits b es kind t pages memory (Err NotFound) new proper r h = same-ends b new es es r h.3 refl
-placed-ends Chosen permits b es kind t pages memory (Err OutOfResources) new proper r h = same-ends b new es es r h.2 refl
-placed-ends Chosen permits b es kind t pages memory (Err status) new proper r h = absurd h
+pub placed-ends : {A : Type 0} (Chosen : Choice) (b : Book) (es : List Extent) (kind t pages memory : ℕ) (result : Result (Placed A) Status) (new : Book) →
+    HasReservedEnds b es → AllocatesPages Chosen b kind t pages memory result new → HasReservedEnds new es
+placed-ends Chosen b es kind t pages memory (Ok placed) new r (v, h, n) = subst (λ (x : Book). HasReservedEnds x es) (sym n) r
+placed-ends Chosen b es kind t pages memory (Err InvalidParameter) new r h = same-ends b new es es r h.1 refl
+placed-ends Chosen b es kind t pages memory (Err NotFound) new r h = same-ends b new es es r h.3 refl
+placed-ends Chosen b es kind t pages memory (Err OutOfResources) new r h = same-ends b new es es r h.2 refl
+placed-ends Chosen b es kind t pages memory (Err status) new r h = absurd h
 
-pub freed-ends : (b : Book) (es : List Extent) (address pages : ℕ) (result : Result (Unit {0}) Status) (new : Book) → IsInGranules b → HasReservedEnds b es → FreesPages b address pages result new → HasReservedEnds new es
-freed-ends b es address pages (Ok done) new granules r (v, h, n) = subst (λ (x : Book). HasReservedEnds x es) (sym n) r
-freed-ends b es address pages (Err InvalidParameter) new granules r h = same-ends b new es es r h.1 refl
-freed-ends b es address pages (Err NotFound) new granules r h = same-ends b new es es r h.2 refl
-freed-ends b es address pages (Err OutOfResources) new granules r h = same-ends b new es es r h.2 refl
-freed-ends b es address pages (Err status) new granules r h = absurd h
+pub freed-ends : (b : Book) (es : List Extent) (address pages : ℕ) (result : Result (Unit {0}) Status) (new : Book) → HasReservedEnds b es → FreesPages b address pages result new → HasReservedEnds new es
+freed-ends b es address pages (Ok done) new r (v, h, n) = subst (λ (x : Book). HasReservedEnds x es) (sym n) r
+freed-ends b es address pages (Err InvalidParameter) new r h = same-ends b new es es r h.1 refl
+freed-ends b es address pages (Err NotFound) new r h = same-ends b new es es r h.2 refl
+freed-ends b es address pages (Err OutOfResources) new r h = same-ends b new es es r h.2 refl
+freed-ends b es address pages (Err status) new r h = absurd h
 
 put-ends : (Chosen : Choice) (b new_b : Book) (es new : List Extent) (t size : ℕ) (answer : Answer) (o : Option Place) → HasReservedEnds b es → IsPut Chosen o b es t size answer new_b new → HasReservedEnds new_b new
 put-ends Chosen b new_b es new t size answer (Some p) r (d, c, g, n) = same-ends b new_b (with_new_block p size es) new (omega (arith, r, count-new-block p size es)) g n
@@ -98,31 +96,32 @@ put-ends Chosen b new_b es new t size answer None r (start, c, d, g, n) =
     let e : Extent = new_extent b.granule start t size in
     subst (λ (x : Book). HasReservedEnds x new) (sym g) (omega (arith, r, count-more e es, ap (λ (xs : List Extent). length xs) n))
 
-pub allocated-ends : (Chosen : Choice) → Permits Chosen → (b : Book) (es : List Extent) (t size : ℕ) (result : Result Answer Status) (new_b : Book) (new : List Extent) →
-    IsGranule b.granule → IsProperMemory b.memory → AreExtents es → HasReservedEnds b es → AllocatesPool Chosen b es t size result new_b new → HasReservedEnds new_b new
-allocated-ends Chosen permits b es t size (Ok answer) new_b new granule proper a r (good, s, put) = put-ends Chosen b new_b es new t size answer (first_fit t size es) r put
-allocated-ends Chosen permits b es t size (Err InvalidParameter) new_b new granule proper a r h = same-ends b new_b es new r h.1 h.2
-allocated-ends Chosen permits b es t size (Err OutOfResources) new_b new granule proper a r h = same-ends b new_b es new r h.2 h.3
-allocated-ends Chosen permits b es t size (Err status) new_b new granule proper a r h = absurd h
+pub allocated-ends : (Chosen : Choice) (b : Book) (es : List Extent) (t size : ℕ) (result : Result Answer Status) (new_b : Book) (new : List Extent) →
+    HasReservedEnds b es → AllocatesPool Chosen b es t size result new_b new → HasReservedEnds new_b new
+allocated-ends Chosen b es t size (Ok answer) new_b new r (good, s, put) = put-ends Chosen b new_b es new t size answer (first_fit t size es) r put
+allocated-ends Chosen b es t size (Err InvalidParameter) new_b new r h = same-ends b new_b es new r h.1 h.2
+allocated-ends Chosen b es t size (Err OutOfResources) new_b new r h = same-ends b new_b es new r h.2 h.3
+allocated-ends Chosen b es t size (Err status) new_b new r h = absurd h
 
-pub written-ends : (b : Book) (es : List Extent) (address : ℕ) (bytes : List ℕ) (result : Result (Unit {0}) Status) (new : List Extent) → AreExtents es → HasReservedEnds b es → WritesPool es address bytes result new → HasReservedEnds b new
-written-ends b es address bytes (Ok done) new a r (h, n) = same-ends b b (written address bytes es) new (omega (arith, r, count-written address bytes es)) refl n
-written-ends b es address bytes (Err InvalidParameter) new a r h = same-ends b b es new r refl h.1
-written-ends b es address bytes (Err status) new a r h = absurd h
+pub written-ends : (b : Book) (es : List Extent) (address : ℕ) (bytes : List ℕ) (result : Result (Unit {0}) Status) (new : List Extent) → HasReservedEnds b es → WritesPool es address bytes result new → HasReservedEnds b new
+written-ends b es address bytes (Ok done) new r (h, n) = same-ends b b (written address bytes es) new (omega (arith, r, count-written address bytes es)) refl n
+written-ends b es address bytes (Err InvalidParameter) new r h = same-ends b b es new r refl h.1
+written-ends b es address bytes (Err status) new r h = absurd h
 
-pub filled-ends : (Chosen : Choice) → Permits Chosen → (b : Book) (es : List Extent) (t : ℕ) (bytes : List ℕ) (result : Result Answer Status) (new_b : Book) (new : List Extent) →
-    IsGranule b.granule → IsProperMemory b.memory → AreExtents es → HasReservedEnds b es → FillsPool Chosen b es t bytes result new_b new → HasReservedEnds new_b new
-filled-ends Chosen permits b es t bytes (Ok answer) new_b new granule proper a r (placed, h, n) =
-    let k : HasReservedEnds new_b placed = allocated-ends Chosen permits b es t (length bytes) (Ok answer) new_b placed granule proper a r h in
+pub filled-ends : (Chosen : Choice) (b : Book) (es : List Extent) (t : ℕ) (bytes : List ℕ) (result : Result Answer Status) (new_b : Book) (new : List Extent) →
+    HasReservedEnds b es → FillsPool Chosen b es t bytes result new_b new → HasReservedEnds new_b new
+filled-ends Chosen b es t bytes (Ok answer) new_b new r (placed, h, n) =
+    let k : HasReservedEnds new_b placed = allocated-ends Chosen b es t (length bytes) (Ok answer) new_b placed r h in
     same-ends new_b new_b (written answer.0 bytes placed) new (omega (arith, k, count-written answer.0 bytes placed)) refl n
-filled-ends Chosen permits b es t bytes (Err e) new_b new granule proper a r h = allocated-ends Chosen permits b es t (length bytes) (Err e) new_b new granule proper a r h
+filled-ends Chosen b es t bytes (Err e) new_b new r h = allocated-ends Chosen b es t (length bytes) (Err e) new_b new r h
 
-pub freed-block-ends : (b : Book) (es : List Extent) (address : ℕ) (result : Result (Unit {0}) Status) (new_b : Book) (new : List Extent) → AreExtents es → HasReservedEnds b es →
+pub freed-block-ends : (b : Book) (es : List Extent) (address : ℕ) (result : Result (Unit {0}) Status) (new_b : Book) (new : List Extent) → HasReservedEnds b es →
     FreesPool b es address result new_b new → HasReservedEnds new_b new
-freed-block-ends b es address (Ok done) new_b new a r (p, s, g, n) =
+freed-block-ends b es address (Ok done) new_b new r (p, s, g, n) =
     same-ends (given_if (ended p es) b) new_b (without p es) new (omega (arith, r, count-without p es, ends-left b (ended p es))) g n
-freed-block-ends b es address (Err InvalidParameter) new_b new a r h = same-ends b new_b es new r h.1 h.2
-freed-block-ends b es address (Err status) new_b new a r h = absurd h
+freed-block-ends b es address (Err InvalidParameter) new_b new r h = same-ends b new_b es new r h.1 h.2
+freed-block-ends b es address (Err OutOfResources) new_b new r (p, range, s, t, z, g, n) = same-ends b new_b es new r g n
+freed-block-ends b es address (Err status) new_b new r h = absurd h
 
 -- ---- the steps of the calls
 
@@ -143,8 +142,3 @@ pub given-ends : (b : Book) (i c : ℕ) (es new : List Extent) → HasReservedEn
 given-ends b i c es new r (e, h, n, d, o) =
     let p : Place = record { first = e.first; cell = c } in
     same-ends b b (without p es) new (omega (arith, r, count-without p es)) refl n
-
--- Where there is an extent, memory is reserved for an end, so pages are given back.
-pub gives : (b new_b : Book) (es : List Extent) (range : PageRange) (status : Status) → 0 < length es → HasReservedEnds b es → GivesFromPool b range (Err status) new_b → ⊥
-gives b new_b es range OutOfResources l r h = omega (arith, l, r, h.1)
-gives b new_b es range status l r h = h

@@ -149,6 +149,7 @@ freed-block-keeps b es address (Ok done) new_b new a owns (p, s, g, n) =
     (g ∙ ap (λ (o : Option PageRange). given_if o b) t)
     (n ∙ ap (λ (j : ℕ). without (record { first = j; cell = p.cell }) es) (sym q))
 freed-block-keeps b es address (Err InvalidParameter) new_b new a owns h = same-keeps b new_b es new a owns h.1 h.2
+freed-block-keeps b es address (Err OutOfResources) new_b new a owns (p, range, s, t, z, g, n) = same-keeps b new_b es new a owns g n
 freed-block-keeps b es address (Err status) new_b new a owns h = absurd h
 
 -- the pages of the extent that ends with the block at a place

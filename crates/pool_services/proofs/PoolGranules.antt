@@ -41,4 +41,5 @@ pub freed-block-granules : (b : Book) (es : List Extent) (address : ℕ) (result
     FreesPool b es address result new_b new → IsInGranules b → IsInGranules new_b
 freed-block-granules b es address (Ok done) new_b new a owns (p, s, g, n) is = subst IsInGranules (sym g) (ended-granules b es p (ended p es) a owns refl is)
 freed-block-granules b es address (Err InvalidParameter) new_b new a owns h is = subst IsInGranules (sym h.1) is
+freed-block-granules b es address (Err OutOfResources) new_b new a owns (p, range, s, t, z, g, n) is = subst IsInGranules (sym g) is
 freed-block-granules b es address (Err status) new_b new a owns h is = absurd h

@@ -8,7 +8,7 @@ use Rattle.page_ranges.specs.Runs.{pages_of, IsValidMachine}
 use Rattle.page_services.specs.declared.page_book.Placed.{Placed}
 use Rattle.page_services.specs.PageRules.{Book, Choice, AllocatesPages, FreesPages, IsInGranules}
 use Rattle.pool_services.specs.Extents.{Extent, AreExtents, tail_at, written}
-use Rattle.pool_services.specs.PoolRules.{Answer, AllocatesPool, FillsPool, FreesPool, OwnsExtents, ReadsPool, WritesPool}
+use Rattle.pool_services.specs.PoolRules.{Answer, AllocatesPool, FillsPool, FreesPool, HasReservedEnds, OwnsExtents, ReadsPool, WritesPool}
 
 -- A machine's own pages are no pool's.
 abbrev pub GivenPagesLaw : Type 0
@@ -30,6 +30,21 @@ FreedKeepsPoolLaw =
     (new : Book) →
     IsInGranules b → OwnsExtents b.memory es → FreesPages b address pages result new
     → OwnsExtents new.memory es
+
+-- AllocatePages leaves what memory is reserved for the ends of extents.
+abbrev pub PlacedKeepsEndsLaw : Choice → Type 0 → Type 0
+PlacedKeepsEndsLaw Chosen A =
+    (b : Book) (es : List Extent) (kind t pages memory : ℕ) (result : Result (Placed A) Status)
+    (new : Book) →
+    HasReservedEnds b es → AllocatesPages Chosen b kind t pages memory result new
+    → HasReservedEnds new es
+
+-- FreePages leaves what memory is reserved for the ends of extents.
+abbrev pub FreedKeepsEndsLaw : Type 0
+FreedKeepsEndsLaw =
+    (b : Book) (es : List Extent) (address pages : ℕ) (result : Result (Unit {0}) Status)
+    (new : Book) →
+    HasReservedEnds b es → FreesPages b address pages result new → HasReservedEnds new es
 
 -- A write leaves the pages of the pool.
 abbrev pub WrittenKeepsPoolLaw : Type 0

@@ -10,7 +10,19 @@ use Rattle.page_ranges.specs.Runs.{is_same_owner}
 use Rattle.placement_certificate.specs.declared.certificates.Request.{Request}
 use Rattle.placement_certificate.specs.Certificates.{CertificateValue}
 use Rattle.page_services.specs.PageRules.{Book, Choice, given_back, placed_book, pool_request}
+use Rattle.raw_pool.specs.declared.pages.numbered.PoolMemory.{PoolMemory}
 use Rattle.pool_services.specs.Extents.{Extent, Place, address_of, ended, extent_pages, first_fit, max_size, new_extent, pages_for, place_of, range_of, tail_at, with_extent, with_new_block, without, written}
+
+-- ---- the pool
+
+-- the extents, and the memory that the machine's pages are, where the pool lies in it: a new extent
+-- lies there at its pages, so that the bytes of a block are those at its address
+pub record PoolValue : Type 0 where
+  pub extents : List Extent
+  pub memory : Option PoolMemory
+
+abbrev pub pool_in : Option PoolMemory → List Extent → PoolValue
+pool_in memory es = record { extents = es; memory = memory }
 
 -- ---- the pages of the pool
 
@@ -32,6 +44,10 @@ OwnsExtents m es = (k : ℕ) → pool_type (page_at m k) ≡ extent_type k es
 -- memory is reserved in a book for the end of each extent
 abbrev pub HasReservedEnds : Book → List Extent → Type 0
 HasReservedEnds b es = length es ≤ b.ends
+
+-- If it is reserved for each extent of a pool, it is for each of another.
+abbrev pub KeepsEnds : Book → PoolValue → Book → PoolValue → Type 0
+KeepsEnds b p new_b new_p = HasReservedEnds b p.extents → HasReservedEnds new_b new_p.extents
 
 -- ---- AllocatePool
 
@@ -100,8 +116,8 @@ abbrev pub given_if : Option PageRange → Book → Book
 given_if None b = b
 given_if (Some range) b = given_back range b
 
--- What FreePool answers, and the book and the extents after it. A refusal leaves both. Memory does
--- not run out, as it is reserved for the end of each extent.
+-- What FreePool answers, and the book and the extents after it. A refusal leaves both.
+-- OUT_OF_RESOURCES means that an extent ends, and that memory for an end ran out and is not reserved.
 abbrev pub FreesPool : Book → List Extent → ℕ → Result (Unit {0}) Status → Book → List Extent
     → Type 0
 FreesPool b es address (Ok done) new_b new_es =
@@ -109,6 +125,9 @@ FreesPool b es address (Ok done) new_b new_es =
     × (new_es ≡ without p es)
 FreesPool b es address (Err InvalidParameter) new_b new_es =
     (place_of address es ≡ None) × (new_b ≡ b) × (new_es ≡ es)
+FreesPool b es address (Err OutOfResources) new_b new_es =
+    (p : Place) × (range : PageRange) × (place_of address es ≡ Some p)
+    × (ended p es ≡ Some range) × (b.ends ≡ 0) × (new_b ≡ b) × (new_es ≡ es)
 FreesPool b es address (Err status) new_b new_es = ⊥
 
 -- ---- the pool's bytes

@@ -1,6 +1,6 @@
 //! The laws of the pool, each the contract of a function that does nothing.
 ghost use Rattle.page_services.specs.PageRules.{IsAnyStart, IsBestChoice};
-ghost use Rattle.pool_services.specs.Laws.{AllocatedBytesLaw, FilledBytesLaw, FreedBytesLaw, FreedKeepsPoolLaw, GivenPagesLaw, PlacedKeepsPoolLaw, ReadBytesLaw, WrittenBytesLaw, WrittenKeepsPoolLaw};
+ghost use Rattle.pool_services.specs.Laws.{AllocatedBytesLaw, FilledBytesLaw, FreedBytesLaw, FreedKeepsEndsLaw, FreedKeepsPoolLaw, GivenPagesLaw, PlacedKeepsEndsLaw, PlacedKeepsPoolLaw, ReadBytesLaw, WrittenBytesLaw, WrittenKeepsPoolLaw};
 
 use std::alloc::Allocator;
 
@@ -18,6 +18,13 @@ pub fn placed_keeps_pool_law<A: Allocator>()
 /// FreePages leaves the pages of the pool.
 pub fn freed_keeps_pool_law()
     ensures { FreedKeepsPoolLaw }
+{}
+
+/// AllocatePages and FreePages leave what memory is reserved for the ends of extents.
+pub fn reserved_ends_law<A: Allocator>()
+    ensures placed_any { PlacedKeepsEndsLaw IsAnyStart A }
+    ensures placed_best { PlacedKeepsEndsLaw IsBestChoice A }
+    ensures freed { FreedKeepsEndsLaw }
 {}
 
 /// A write into a block leaves the pages of the pool.

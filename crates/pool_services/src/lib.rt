@@ -14,7 +14,8 @@ mod searches;
 
 pub use laws::{
     allocated_bytes_law, filled_bytes_law, freed_bytes_law, freed_keeps_pool_law, given_pages_law,
-    placed_keeps_pool_law, read_bytes_law, written_bytes_law, written_keeps_pool_law,
+    placed_keeps_pool_law, read_bytes_law, reserved_ends_law, written_bytes_law,
+    written_keeps_pool_law,
 };
 pub use listed::PoolBlock;
 pub use pools::{Pools, extent_request};

@@ -5,7 +5,7 @@ ghost use Rattle.page_ranges.specs.MemoryTypes.{is_bad_type};
 ghost use Rattle.page_services.specs.PageRules.{IsBestChoice, if_counted};
 ghost use Rattle.pool_services.specs.Extents.{first_fit, max_size, tail_at};
 ghost use Rattle.pool_services.specs.Listed.{blocks_of, is_from};
-ghost use Rattle.pool_services.specs.PoolRules.{AllocatesPool, FillsPool, FreesPool, HasReservedEnds, OwnsExtents, ReadsPool, WritesPool, extent_request};
+ghost use Rattle.pool_services.specs.PoolRules.{AllocatesPool, FillsPool, FreesPool, KeepsEnds, OwnsExtents, ReadsPool, WritesPool, extent_request, pool_in};
 
 use crate::extent_groups::ExtentGroups;
 use crate::extents::{Freed, HEADER_SIZE, PoolExtent, extent_pages, pages_for};
@@ -36,7 +36,7 @@ pub fn extent_request(granule: u64, mtype: MemoryType, size: u64) -> Option<Requ
 /// The pool of a machine: its extents, in the order of their addresses, and the blocks in them.
 ///
 /// Calls that take the machine's book require that the pages of the pool in it are those of these
-/// extents, and that it has memory reserved for the end of each, and keep it so.
+/// extents, and keep it so. Where the book has memory reserved for the end of each, they keep that too.
 #[derive(Drop)]
 pub struct Pools<A: Allocator = Global> {
     alloc: A,
@@ -45,19 +45,18 @@ pub struct Pools<A: Allocator = Global> {
 }
 
 impl<A: Allocator> Model for Pools<A> {
-    ghost use Rattle.std.specs.Prelude.{List};
-    ghost use Rattle.pool_services.specs.Extents.{Extent};
+    ghost use Rattle.pool_services.specs.PoolRules.{PoolValue, pool_in};
     ghost use Rattle.pool_services.specs.Spots.{extents_of};
 
-    ghost Value = { List Extent };
+    ghost Value = { PoolValue };
 
-    ghost view = { λ p. extents_of p.extents };
+    ghost view = { λ p. pool_in p.regions (extents_of p.extents) };
 }
 
 impl<A: Allocator + Copy> Pools<A> {
     /// A pool without extents. This takes no memory.
     pub fn new(alloc: A) -> Pools<A>
-        ensures { result ≡ [] }
+        ensures { result ≡ pool_in None [] }
     {
         Pools {
             alloc,
@@ -69,7 +68,7 @@ impl<A: Allocator + Copy> Pools<A> {
     /// The same, whose extents lie in memory that the machine's pages are: the bytes of a block are those at
     /// its address. Other pages are refused with OUT_OF_RESOURCES.
     pub fn over(alloc: A, memory: PoolMemory) -> Pools<A>
-        ensures { result ≡ [] }
+        ensures { result ≡ pool_in (Some memory) [] }
     {
         Pools {
             alloc,
@@ -92,12 +91,12 @@ impl<A: Allocator + Copy> Pools<A> {
         size: u64,
     ) -> Result<(u64, Option<Certificate<A>>), Status>
         requires key { book.old.key < 2 ^ 62 }
-        requires owns { OwnsExtents book.old.memory self.old }
-        requires reserved { HasReservedEnds book.old self.old }
-        ensures allocates { AllocatesPool IsBestChoice book.old self.old mtype size result book.new
-            self.new }
-        ensures owns { OwnsExtents book.new.memory self.new }
-        ensures reserved { HasReservedEnds book.new self.new }
+        requires owns { OwnsExtents book.old.memory self.old.extents }
+        ensures allocates { AllocatesPool IsBestChoice book.old self.old.extents mtype size result
+            book.new self.new.extents }
+        ensures owns { OwnsExtents book.new.memory self.new.extents }
+        ensures reserved { KeepsEnds book.old self.old book.new self.new }
+        ensures memory { self.new.memory ≡ self.old.memory }
     {
         let mtype = type_for_alloc(mtype)?;
         if size > MAX_SIZE {
@@ -121,12 +120,12 @@ impl<A: Allocator + Copy> Pools<A> {
         bytes: &[u8],
     ) -> Result<(u64, Option<Certificate<A>>), Status>
         requires key { book.old.key < 2 ^ 62 }
-        requires owns { OwnsExtents book.old.memory self.old }
-        requires reserved { HasReservedEnds book.old self.old }
-        ensures fills { FillsPool IsBestChoice book.old self.old mtype bytes.now result book.new
-            self.new }
-        ensures owns { OwnsExtents book.new.memory self.new }
-        ensures reserved { HasReservedEnds book.new self.new }
+        requires owns { OwnsExtents book.old.memory self.old.extents }
+        ensures fills { FillsPool IsBestChoice book.old self.old.extents mtype bytes.now result
+            book.new self.new.extents }
+        ensures owns { OwnsExtents book.new.memory self.new.extents }
+        ensures reserved { KeepsEnds book.old self.old book.new self.new }
+        ensures memory { self.new.memory ≡ self.old.memory }
     {
         self.extents.apart_law();
         let answer = self.allocate(book, mtype, bytes.len() as u64)?;
@@ -145,15 +144,15 @@ impl<A: Allocator + Copy> Pools<A> {
         size: usize,
     ) -> Result<(u64, Option<Certificate<A>>), Status>
         requires key { book.old.key < 2 ^ 62 }
-        requires owns { OwnsExtents book.old.memory self.old }
-        requires reserved { HasReservedEnds book.old self.old }
+        requires owns { OwnsExtents book.old.memory self.old.extents }
         requires good { is_bad_type mtype ≡ false }
         requires size { size ≤ max_size }
-        requires none { first_fit mtype size self.old ≡ None }
-        ensures allocates { AllocatesPool IsBestChoice book.old self.old mtype size result book.new
-            self.new }
-        ensures owns { OwnsExtents book.new.memory self.new }
-        ensures reserved { HasReservedEnds book.new self.new }
+        requires none { first_fit mtype size self.old.extents ≡ None }
+        ensures allocates { AllocatesPool IsBestChoice book.old self.old.extents mtype size result
+            book.new self.new.extents }
+        ensures owns { OwnsExtents book.new.memory self.new.extents }
+        ensures reserved { KeepsEnds book.old self.old book.new self.new }
+        ensures memory { self.new.memory ≡ self.old.memory }
     {
         let pages = extent_pages(book.granule(), mtype, size);
         let Some(chosen) = book.choose_for_pool(mtype, pages_for(size) as u64) else {
@@ -180,15 +179,16 @@ impl<A: Allocator + Copy> Pools<A> {
     /// FreePool: gives the block at an address back. An extent that has no other block ends, and its
     /// pages are conventional again.
     ///
-    /// INVALID_PARAMETER: no block has the address. On an `Err` all is as it was. Memory does not run out: the
-    /// book has it reserved for the end of each extent.
+    /// INVALID_PARAMETER: no block has the address. OUT_OF_RESOURCES: memory ran out for the end of an extent, for
+    /// which the book has none reserved. On an `Err` all is as it was.
     pub fn free(&mut self, book: &mut PageBook<A>, address: u64) -> Result<(), Status>
         requires key { book.old.key < 2 ^ 62 }
-        requires owns { OwnsExtents book.old.memory self.old }
-        requires reserved { HasReservedEnds book.old self.old }
-        ensures frees { FreesPool book.old self.old address result book.new self.new }
-        ensures owns { OwnsExtents book.new.memory self.new }
-        ensures reserved { HasReservedEnds book.new self.new }
+        requires owns { OwnsExtents book.old.memory self.old.extents }
+        ensures frees { FreesPool book.old self.old.extents address result book.new
+            self.new.extents }
+        ensures owns { OwnsExtents book.new.memory self.new.extents }
+        ensures reserved { KeepsEnds book.old self.old book.new self.new }
+        ensures memory { self.new.memory ≡ self.old.memory }
     {
         let Some(spot) = self.extents.holder(address) else {
             return Err(Status::InvalidParameter);
@@ -210,7 +210,7 @@ impl<A: Allocator + Copy> Pools<A> {
     ///
     /// INVALID_PARAMETER: they do not lie in one block. The buffer is then as it was.
     pub fn read(&self, address: u64, buffer: &mut [u8]) -> Result<(), Status>
-        ensures { ReadsPool self.now address buffer.old result buffer.new }
+        ensures { ReadsPool self.now.extents address buffer.old result buffer.new }
     {
         match self.tail(address) {
             Some(bytes) if buffer.len() <= bytes.len() => {
@@ -225,7 +225,8 @@ impl<A: Allocator + Copy> Pools<A> {
     ///
     /// INVALID_PARAMETER: they do not. All is then as it was.
     pub fn write(&mut self, address: u64, bytes: &[u8]) -> Result<(), Status>
-        ensures { WritesPool self.old address bytes.now result self.new }
+        ensures writes { WritesPool self.old.extents address bytes.now result self.new.extents }
+        ensures memory { self.new.memory ≡ self.old.memory }
     {
         if self.extents.write(address, bytes) {
             Ok(())
@@ -237,7 +238,7 @@ impl<A: Allocator + Copy> Pools<A> {
     /// The bytes from an address on to the end of the block that it belongs to. An address belongs to a
     /// block from its first byte on up to the end behind its last byte.
     pub fn tail(&self, address: u64) -> Option<&[u8]>
-        ensures bytes { option_map (λ s. s.now) result ≡ tail_at address self.now }
+        ensures bytes { option_map (λ s. s.now) result ≡ tail_at address self.now.extents }
         ensures within { IfSome result (λ s. address + length s.now ≤ 2 ^ 64) }
     {
         self.extents.tail(address)
@@ -245,7 +246,7 @@ impl<A: Allocator + Copy> Pools<A> {
 
     /// The live block with the lowest address at or above one.
     pub fn block_from(&self, address: u64) -> Option<PoolBlock>
-        ensures { result ≡ find (is_from address) (blocks_of self.now) }
+        ensures { result ≡ find (is_from address) (blocks_of self.now.extents) }
     {
         self.extents.block_from(address)
     }

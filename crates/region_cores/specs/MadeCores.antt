@@ -1,7 +1,7 @@
 -- What is made of records and tables, as a variable of the caller's has it.
 use Rattle.std.specs.Prelude.{ℕ, List, Result, Ok, Err, MatchOption, MatchResult}
 use Rattle.c_machines.specs.declared.drivers.DriverTable.{DriverTable}
-use Rattle.c_interface.specs.Making.{MakesCore}
+use Rattle.c_interface.specs.Making.{LiesFrom, MakesCore}
 use Rattle.region_cores.specs.Cores.{CoreHeap}
 use Rattle.region_cores.specs.Places.{Held}
 use Rattle.region_cores.specs.declared.place.Place.{Place}
@@ -11,6 +11,10 @@ abbrev pub Holds : ℕ → List ℕ → ℕ → List DriverTable → Held → Ty
 Holds size records granule tables held =
     MatchOption held ⊥
     (λ handle. MakesCore {A = CoreHeap} size records granule tables (Ok handle.core))
+
+-- The pool of the core that is held lies in memory whose pages are those of the machine from one on.
+abbrev pub HoldsOver : ℕ → Held → Type 0
+HoldsOver first held = MatchOption held ⊥ (λ handle. LiesFrom first handle.core)
 
 -- No core is made, with this status.
 abbrev pub Refuses : ℕ → List ℕ → ℕ → List DriverTable → ℕ → Type 0

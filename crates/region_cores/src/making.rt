@@ -1,6 +1,6 @@
 //! Making cores.
-ghost use Rattle.std.specs.Prelude.{◌≡◌, IfSome, MatchOption};
-ghost use Rattle.region_cores.specs.MadeCores.{MakesPlace};
+ghost use Rattle.std.specs.Prelude.{◌≡◌, IfOk, IfSome, MatchOption};
+ghost use Rattle.region_cores.specs.MadeCores.{HoldsOver, MakesPlace};
 
 use crate::handle::Rafkudin;
 use crate::lasting::Lasting;
@@ -40,7 +40,8 @@ pub fn make_over(
     granule: u64,
     drivers: &[DriverTable],
 ) -> Result<Place, u64>
-    ensures { MakesPlace descriptor_size records.now granule drivers.now result }
+    ensures makes { MakesPlace descriptor_size records.now granule drivers.now result }
+    ensures over { IfOk result (λ place. HoldsOver first place.held) }
 {
     let pages = Some((run, first));
     make(region, pages, records, descriptor_size, granule, drivers)
@@ -56,7 +57,8 @@ fn make(
     granule: u64,
     drivers: &[DriverTable],
 ) -> Result<Place, u64>
-    ensures { MakesPlace descriptor_size records.now granule drivers.now result }
+    ensures makes { MakesPlace descriptor_size records.now granule drivers.now result }
+    ensures over { IfOk result (λ place. IfSome pages (λ p. HoldsOver p.1 place.held)) }
 {
     if !are_tables(drivers) {
         return Err(Status::InvalidParameter.number());

@@ -1,6 +1,6 @@
 //! Making cores.
 ghost use Rattle.std.specs.Prelude.{◌≡◌, ◌<◌};
-ghost use Rattle.region_cores.specs.MadeCores.{Holds, Refuses};
+ghost use Rattle.region_cores.specs.MadeCores.{Holds, HoldsOver, Refuses};
 ghost use Rattle.region_services_c.specs.Rooms.{room_for};
 
 use c_machines::DriverTable;
@@ -72,6 +72,7 @@ pub extern "C" fn RafkudinMakeOverInRegion(
     ensures refused { 0 < result
         → Refuses descriptor_size records.now granule drivers.now result }
     ensures kept { 0 < result → core.new ≡ core.old }
+    ensures over { result ≡ 0 → HoldsOver first core.new.held }
 {
     match make_over(
         region,

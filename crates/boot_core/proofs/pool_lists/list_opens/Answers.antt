@@ -11,4 +11,4 @@ returns g c =
     let count = ap (λ (xs : List OpenItem). length xs) items in
     let some = some_of _ (sym c.is_empty.ensures ∙ c.if-is_empty.false) in
     let bytes = c.as_slice-2.ensures.value ∙ c.in-Ok.ensures ∙ ap item_bytes (c.as_slice.ensures.value ∙ items) in
-    record { lists = (carried, omega (arith, count), puts_items IsBestChoice _ _ _ _ _ (omega (arith, count, some)) bytes c.in_ok-address.ensures.fills refl) }
+    record { lists = (carried, omega (arith, count), puts_items IsBestChoice _ _ _ _ _ (omega (arith, count, some)) bytes c.in_ok-address.ensures.fills refl); memory = c.in_ok-address.ensures.memory }

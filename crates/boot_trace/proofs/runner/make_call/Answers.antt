@@ -31,14 +31,14 @@ returns-in-Ok-print_call-clause-err g c = tt
 pub returns-clause-ok : goal.returns-clause-ok
 returns-clause-ok g c = tt
 
-pub returns-then-calls_left-eq0-clause-drivers : goal.returns-then-calls_left-eq0-clause-drivers
-returns-then-calls_left-eq0-clause-drivers g c = refl
+pub returns-then-calls_left-eq0-clause-given : goal.returns-then-calls_left-eq0-clause-given
+returns-then-calls_left-eq0-clause-given g c = refl
 
-pub returns-in_default-clause-drivers : goal.returns-in_default-clause-drivers
-returns-in_default-clause-drivers g c = refl
+pub returns-in_default-clause-given : goal.returns-in_default-clause-given
+returns-in_default-clause-given g c = refl
 
-pub returns-in-Ok-print_call-clause-drivers : goal.returns-in-Ok-print_call-clause-drivers
-returns-in-Ok-print_call-clause-drivers g c = c.call-reply.ensures.drivers
+pub returns-in-Ok-print_call-clause-given : goal.returns-in-Ok-print_call-clause-given
+returns-in-Ok-print_call-clause-given g c = c.call-reply.ensures.given
 
-pub returns-clause-drivers : goal.returns-clause-drivers
-returns-clause-drivers g c = c.call-reply.ensures.drivers
+pub returns-clause-given : goal.returns-clause-given
+returns-clause-given g c = c.call-reply.ensures.given

@@ -5,6 +5,6 @@ use Rattle.boot_trace.proofs.runner.run.Given as goal
 
 abbrev pub invariant-loop-done : goal.invariant-loop-done
 invariant-loop-done g l = record {
-  line : AtLineIf g.row.A.Denot (map g.D.Driver.meaning l.initial.core.drivers) l.certify (g.R.Read.remaining l.fn.reader) l.initial.core.state (g.W.Write.contents l.initial.writer) l.done l.core.state (g.W.Write.contents l.writer) (reader_remaining g.R.Read.remaining l.reader);
-  drivers : l.core.drivers ≡ l.initial.core.drivers;
+  line : AtLineIf g.row.A.Denot (map g.D.Driver.meaning l.initial.core.given.drivers) l.certify (g.R.Read.remaining l.fn.reader) l.initial.core.state (g.W.Write.contents l.initial.writer) l.done l.core.state (g.W.Write.contents l.writer) (reader_remaining g.R.Read.remaining l.reader);
+  given : l.core.given ≡ l.initial.core.given;
 }

@@ -10,7 +10,7 @@ loop-handle-preserved g c =
     let holders = c.by_protocol-holders.result.now in
     record {
       found = λ ns all z.
-          let f = match_of c.args.handles.now c.args.pools.now ns in
+          let f = match_of c.args.handles.now c.args.pools.now.extents ns in
           rw c.longer-best.ensures
           (one_more f c.loop-handle.best c.match_of.result holders c.loop-handle.handle-index (longest (filter_map f holders)) c.loop-handle-test.true (rw c.bytes_of.ensures at (c.match_of.ensures.found ns all z)) (i.found ns all z));
       boundary = rw c.longer-best.ensures (longer_keeps (λ m. IsBoundary c.args.nodes.now m.1) c.loop-handle.best c.match_of.result i.boundary c.match_of.ensures.boundary);

@@ -12,4 +12,4 @@ slice_bounds-result-end g c =
 pub returns : goal.returns
 returns g c =
     let r = whole_read c.in_ok-bytes.bytes.now c.in_ok-span.span c.in_ok-span.ensures in
-    r.taken ∙ ap whole_bytes (path_there c.in_ok-bytes.bytes.now c.args.address c.args.pools.now c.in_ok-bytes.ensures.bytes)
+    r.taken ∙ ap whole_bytes (path_there c.in_ok-bytes.bytes.now c.args.address c.args.pools.now.extents c.in_ok-bytes.ensures.bytes)

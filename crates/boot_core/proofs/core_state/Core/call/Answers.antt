@@ -5,16 +5,16 @@ use Rattle.boot_core.proofs.core_state.Core.call.Goals as goal
 
 pub returns-in-PoolRead-clause-step : goal.returns-in-PoolRead-clause-step
 returns-in-PoolRead-clause-step g c =
-    subst (λ (call : Call g.row.A.Denot). Step (map g.D.Driver.meaning c.args.self.now.drivers) c.args.self.now.state call c.get_pool_bytes.result c.get_pool_bytes.new.self.state) (sym c.in-PoolRead.is) c.get_pool_bytes.ensures.step
+    subst (λ (call : Call g.row.A.Denot). Step (map g.D.Driver.meaning c.args.self.now.given.drivers) c.args.self.now.state call c.get_pool_bytes.result c.get_pool_bytes.new.self.state) (sym c.in-PoolRead.is) c.get_pool_bytes.ensures.step
 
 pub returns-in-LocateHandle-clause-step : goal.returns-in-LocateHandle-clause-step
 returns-in-LocateHandle-clause-step g c =
-    subst (λ (call : Call g.row.A.Denot). Step (map g.D.Driver.meaning c.args.self.now.drivers) c.args.self.now.state call c.locate_handle.result c.locate_handle.new.self.state) (sym c.in-LocateHandle.is) c.locate_handle.ensures.step
+    subst (λ (call : Call g.row.A.Denot). Step (map g.D.Driver.meaning c.args.self.now.given.drivers) c.args.self.now.state call c.locate_handle.result c.locate_handle.new.self.state) (sym c.in-LocateHandle.is) c.locate_handle.ensures.step
 
 pub returns-in-UninstallProtocolInterface-clause-step : goal.returns-in-UninstallProtocolInterface-clause-step
 returns-in-UninstallProtocolInterface-clause-step g c =
-    subst (λ (call : Call g.row.A.Denot). Step (map g.D.Driver.meaning c.args.self.now.drivers) c.args.self.now.state call c.uninstall.result c.uninstall.new.self.state) (sym c.in-UninstallProtocolInterface.is) c.uninstall.ensures.step
+    subst (λ (call : Call g.row.A.Denot). Step (map g.D.Driver.meaning c.args.self.now.given.drivers) c.args.self.now.state call c.uninstall.result c.uninstall.new.self.state) (sym c.in-UninstallProtocolInterface.is) c.uninstall.ensures.step
 
 pub returns-in-ReinstallProtocolInterface-clause-step : goal.returns-in-ReinstallProtocolInterface-clause-step
 returns-in-ReinstallProtocolInterface-clause-step g c =
-    subst (λ (call : Call g.row.A.Denot). Step (map g.D.Driver.meaning c.args.self.now.drivers) c.args.self.now.state call c.reinstall.result c.reinstall.new.self.state) (sym c.in-ReinstallProtocolInterface.is) c.reinstall.ensures.step
+    subst (λ (call : Call g.row.A.Denot). Step (map g.D.Driver.meaning c.args.self.now.given.drivers) c.args.self.now.state call c.reinstall.result c.reinstall.new.self.state) (sym c.in-ReinstallProtocolInterface.is) c.reinstall.ensures.step

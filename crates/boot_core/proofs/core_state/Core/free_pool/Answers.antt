@@ -6,7 +6,7 @@ use Rattle.boot_core.proofs.core_state.Core.free_pool.Goals as goal
 
 pub invariant_of-self : goal.invariant_of-self
 invariant_of-self g c =
-    let old : Parts = record { book = c.self.inside.book; pools = c.self.inside.pools; lists = c.self.inside.protocols } in
-    let follows = follows_now old c.self.inside.exited c.self.inside.calls_left c.self.inside.drivers.items c.begin.new.self c.self.view_is c.begin.ensures.follows in
-    let kept = frees_pool_kept old c.args.address c.free.result c.free.new.book c.free.new.self c.self.invariant.1 c.free.ensures.frees in
-    (follows_on old (record { book = c.free.new.book; pools = c.free.new.self; lists = old.lists }) c.self.inside.calls_left follows kept.key (not_raised old.lists old.lists refl), kept.sound old.lists)
+    let old : Parts = record { book = c.self.inside.book; pools = c.self.inside.pools.extents; lists = c.self.inside.protocols } in
+    let follows = follows_now old c.self.inside.exited c.self.inside.calls_left _ c.begin.new.self c.self.view_is c.begin.ensures.follows in
+    let kept = frees_pool_kept old c.args.address c.free.result c.free.new.book c.free.new.self.extents c.self.invariant.1 c.free.ensures.frees in
+    (follows_on old (record { book = c.free.new.book; pools = c.free.new.self.extents; lists = old.lists }) c.self.inside.calls_left follows kept.key (not_raised old.lists old.lists refl), kept.sound old.lists)

@@ -13,7 +13,7 @@ returns-clause-step g c =
     let old = c.args.self.now.state in
     let new = c.begin.new.self.state in
     let begun = c.begin.ensures in
-    let pools : c.self-2.inside.pools ≡ old.parts.pools = ap (λ (v : CoreValue g.row.D.Denot). v.state.parts.pools) c.self-2.view_is ∙ ap (λ (p : Parts). p.pools) begun.parts in
+    let pools : c.self-2.inside.pools.extents ≡ old.parts.pools = ap (λ (v : CoreValue g.row.D.Denot). v.state.parts.pools) c.self-2.view_is ∙ ap (λ (p : Parts). p.pools) begun.parts in
     elim c.match-begin.branch [
       | in-Ok w ↦
           let answers = subst (λ (es : List Extent). AnswersRead es c.args.address c.args.size w.read_bytes-status.result.0 w.read_bytes-status.result.1.items) pools w.read_bytes-status.ensures in

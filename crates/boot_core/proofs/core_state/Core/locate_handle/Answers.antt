@@ -11,7 +11,7 @@ returns-clause-step g c =
     let old = c.args.self.now.state in
     let begun = c.begin.ensures in
     let now : State = c.begin.new.self.state in
-    let parts : Parts = record { book = c.self.inside.book; pools = c.self.inside.pools; lists = c.self.inside.protocols } in
+    let parts : Parts = record { book = c.self.inside.book; pools = c.self.inside.pools.extents; lists = c.self.inside.protocols } in
     let same : parts ≡ old.parts = ap (λ (v : CoreValue g.row.D.Denot). v.state.parts) c.self.view_is ∙ begun.parts in
     elim c.match-begin.branch [
       | in-Ok w ↦
@@ -19,7 +19,7 @@ returns-clause-step g c =
           let book = ap (λ (p : Parts). p.book) same in
           let pools = ap (λ (p : Parts). p.pools) same in
           rw (w.self-is, w.result-is) (record {
-            answers = (w.locate.result, refl, open_rule old.exited old.parts (record { book = c.self.inside.book; pools = c.self.inside.pools; lists = w.locate.new.self }) _ _ c.begin.result w.in-Ok.field-0 begun.answer w.in-Ok.is (locates, book, pools));
+            answers = (w.locate.result, refl, open_rule old.exited old.parts (record { book = c.self.inside.book; pools = c.self.inside.pools.extents; lists = w.locate.new.self }) _ _ c.begin.result w.in-Ok.field-0 begun.answer w.in-Ok.is (locates, book, pools));
             exited = ap (λ (v : CoreValue g.row.D.Denot). v.state.exited) c.self.view_is ∙ begun.exited;
             calls_left = ap (λ (v : CoreValue g.row.D.Denot). v.state.calls_left + 1) c.self.view_is ∙ begun.counted;
           })

@@ -1,7 +1,7 @@
 use Rattle.std.proofs.Common.{◌≡◌, ◌+◌, List, map, refl, ap, subst, ◌∙◌, arith, rules}
 use Rattle.protocol_services.specs.Lists.{Lists}
 use Rattle.protocol_services.specs.Removing.{Uninstalls}
-use Rattle.boot_core.specs.Machines.{CoreValue, Parts, State}
+use Rattle.boot_core.specs.Machines.{CoreValue, Given, Parts, State}
 use Rattle.boot_core.proofs.Follows.{follows_now, follows_on}
 use Rattle.boot_core.proofs.Serving.{open_rule, exited_refusal}
 use Rattle.boot_core.proofs.Soundness.{any_lists}
@@ -10,8 +10,8 @@ use Rattle.boot_core.proofs.core_state.Core.uninstall.Goals as goal
 
 pub invariant_of-self : goal.invariant_of-self
 invariant_of-self g c =
-    let old : Parts = record { book = c.self.inside.book; pools = c.self.inside.pools; lists = c.self.inside.protocols } in
-    let follows = follows_now old c.self.inside.exited c.self.inside.calls_left c.self.inside.drivers.items c.begin.new.self c.self.view_is c.begin.ensures.follows in
+    let old : Parts = record { book = c.self.inside.book; pools = c.self.inside.pools.extents; lists = c.self.inside.protocols } in
+    let follows = follows_now old c.self.inside.exited c.self.inside.calls_left _ c.begin.new.self c.self.view_is c.begin.ensures.follows in
     (follows_on old (record { book = old.book; pools = old.pools; lists = c.uninstall.new.self }) c.self.inside.calls_left follows (omega arith) c.uninstall.ensures.raised, any_lists old.book old.pools old.lists c.uninstall.new.self c.self.invariant.1)
 
 pub returns-clause-step : goal.returns-clause-step
@@ -19,21 +19,21 @@ returns-clause-step g c =
     let old = c.args.self.now.state in
     let begun = c.begin.ensures in
     let now : State = c.begin.new.self.state in
-    let parts : Parts = record { book = c.self.inside.book; pools = c.self.inside.pools; lists = c.self.inside.protocols } in
+    let parts : Parts = record { book = c.self.inside.book; pools = c.self.inside.pools.extents; lists = c.self.inside.protocols } in
     let same : parts ≡ old.parts = ap (λ (v : CoreValue g.row.D.Denot). v.state.parts) c.self.view_is ∙ begun.parts in
-    let handed : c.self.inside.drivers.items ≡ c.args.self.now.drivers = ap (λ (v : CoreValue g.row.D.Denot). v.drivers) c.self.view_is ∙ begun.drivers in
+    let handed : c.self.inside.drivers.items ≡ c.args.self.now.given.drivers = ap (λ (v : CoreValue g.row.D.Denot). v.given.drivers) c.self.view_is ∙ ap (λ (v : Given g.row.D.Denot). v.drivers) begun.given in
     elim c.match-begin.branch [
       | in-Ok w ↦
           let here =
           subst (λ (ds : List g.row.D.Denot). Uninstalls (map g.D.Driver.meaning ds) c.self.inside.protocols c.args.handle c.args.guid c.args.value w.uninstall.result w.uninstall.new.self) (w.as_slice.ensures.value ∙ handed) w.uninstall.ensures.uninstalls
           in
           let served =
-          subst (λ (l : Lists). Uninstalls (map g.D.Driver.meaning c.args.self.now.drivers) l c.args.handle c.args.guid c.args.value w.uninstall.result w.uninstall.new.self) (ap (λ (p : Parts). p.lists) same) here
+          subst (λ (l : Lists). Uninstalls (map g.D.Driver.meaning c.args.self.now.given.drivers) l c.args.handle c.args.guid c.args.value w.uninstall.result w.uninstall.new.self) (ap (λ (p : Parts). p.lists) same) here
           in
           let book = ap (λ (p : Parts). p.book) same in
           let pools = ap (λ (p : Parts). p.pools) same in
           rw (w.self-is, w.result-is) (record {
-            answers = (w.uninstall.result, refl, open_rule old.exited old.parts (record { book = c.self.inside.book; pools = c.self.inside.pools; lists = w.uninstall.new.self }) _ _ c.begin.result w.in-Ok.field-0 begun.answer w.in-Ok.is (served, book, pools));
+            answers = (w.uninstall.result, refl, open_rule old.exited old.parts (record { book = c.self.inside.book; pools = c.self.inside.pools.extents; lists = w.uninstall.new.self }) _ _ c.begin.result w.in-Ok.field-0 begun.answer w.in-Ok.is (served, book, pools));
             exited = ap (λ (v : CoreValue g.row.D.Denot). v.state.exited) c.self.view_is ∙ begun.exited;
             calls_left = ap (λ (v : CoreValue g.row.D.Denot). v.state.calls_left + 1) c.self.view_is ∙ begun.counted;
           })

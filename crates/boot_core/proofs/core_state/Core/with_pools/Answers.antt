@@ -19,8 +19,8 @@ invariant_of-result g c =
     let pages : c.in_ok-table.table.pages ≡ pages_of machine.runs = ap (λ (t : Table). t.pages) c.in_ok-table.ensures ∙ ap pages_of c.runs.ensures.runs in
     let book : c.new.result ≡ new_book machine.granule (pages_of machine.runs) =
     c.new.ensures ∙ ap (λ (n : ℕ). new_book n c.in_ok-table.table.pages) c.granule.ensures.granule ∙ ap (new_book machine.granule) pages in
-    let is : parts_of c.new.result c.args.pools c.new-2.result ≡ (first_state machine).parts =
-    ap (λ (b : Book). parts_of b c.args.pools c.new-2.result) book ∙ ap (λ (es : List Extent). parts_of (first_state machine).parts.book es c.new-2.result) c.requires ∙ ap (parts_of (first_state machine).parts.book []) c.new-2.ensures in
+    let is : parts_of c.new.result c.args.pools.extents c.new-2.result ≡ (first_state machine).parts =
+    ap (λ (b : Book). parts_of b c.args.pools.extents c.new-2.result) book ∙ ap (λ (es : List Extent). parts_of (first_state machine).parts.book es c.new-2.result) c.requires ∙ ap (parts_of (first_state machine).parts.book []) c.new-2.ensures in
     let valid : IsMachine machine = record { runs = c.runs.ensures.valid; granule = subst IsGranule c.granule.ensures.granule c.granule.ensures.valid } in (
       subst (λ (p : Parts). FollowsCalls p all_calls) (sym is) (first_follows machine),
       subst AreSound (sym is) (first_sound true machine valid),

@@ -7,16 +7,16 @@ use Rattle.c_interface.proofs.efi_core.EfiCore.allocate_pool.Goals as goal
 
 pub returns-then-is_some : goal.returns-then-is_some
 returns-then-is_some g c =
-    let served = reply_left c.args.self.now _ c.return_known.new.self c.allocate_pool.new.self (call.AllocatePool c.args.mtype c.args.size) (reply.AllocatePool (Ok (c.in-Ok.address, c.in-Ok.certificate))) (c.self-2.view_is ∙ c.begin.ensures.core) (search rules) c.in-Ok.ensures.step c.in-Ok.ensures.drivers c.return_known.ensures.core in
+    let served = reply_left c.args.self.now _ c.return_known.new.self c.allocate_pool.new.self (call.AllocatePool c.args.mtype c.args.size) (reply.AllocatePool (Ok (c.in-Ok.address, c.in-Ok.certificate))) (c.self-2.view_is ∙ c.begin.ensures.core) (search rules) c.in-Ok.ensures.step c.in-Ok.ensures.given c.return_known.ensures.core in
     inl (reply.AllocatePool (Ok (c.in-Ok.address, c.in-Ok.certificate)), served, c.return_known.ensures.status, refl)
 
 pub returns-else-is_some : goal.returns-else-is_some
 returns-else-is_some g c =
     let same = ap (λ k. reply.AllocatePool (Ok (c.in-Ok.address, k))) (sym (none_of c.in-Ok.certificate (sym c.is_some.ensures ∙ c.if-is_some.false))) in
-    let served = brief_left c.args.self.now _ c.return_brief.new.self c.allocate_pool.new.self (call.AllocatePool c.args.mtype c.args.size) (reply.AllocatePool (Ok (c.in-Ok.address, None))) (reply.AllocatePool (Ok (c.in-Ok.address, c.in-Ok.certificate))) (c.self-2.view_is ∙ c.begin.ensures.core) (search rules) c.in-Ok.ensures.step c.in-Ok.ensures.drivers same c.return_brief.ensures.core in
+    let served = brief_left c.args.self.now _ c.return_brief.new.self c.allocate_pool.new.self (call.AllocatePool c.args.mtype c.args.size) (reply.AllocatePool (Ok (c.in-Ok.address, None))) (reply.AllocatePool (Ok (c.in-Ok.address, c.in-Ok.certificate))) (c.self-2.view_is ∙ c.begin.ensures.core) (search rules) c.in-Ok.ensures.step c.in-Ok.ensures.given same c.return_brief.ensures.core in
     inl (reply.AllocatePool (Ok (c.in-Ok.address, c.in-Ok.certificate)), served, c.return_brief.ensures.status, refl)
 
 pub returns-in-Err : goal.returns-in-Err
 returns-in-Err g c =
-    let served = reply_left c.args.self.now _ c.return_brief-in-Err.new.self c.allocate_pool.new.self (call.AllocatePool c.args.mtype c.args.size) (reply.AllocatePool (Err c.in-Err.status)) (c.self-2.view_is ∙ c.begin.ensures.core) (search rules) c.in-Err.ensures.step c.in-Err.ensures.drivers c.return_brief-in-Err.ensures.core in
+    let served = reply_left c.args.self.now _ c.return_brief-in-Err.new.self c.allocate_pool.new.self (call.AllocatePool c.args.mtype c.args.size) (reply.AllocatePool (Err c.in-Err.status)) (c.self-2.view_is ∙ c.begin.ensures.core) (search rules) c.in-Err.ensures.step c.in-Err.ensures.given c.return_brief-in-Err.ensures.core in
     inl (reply.AllocatePool (Err c.in-Err.status), served, c.return_brief-in-Err.ensures.status, refl)

@@ -25,7 +25,7 @@ returns g c =
       answer,
       record {
         step = c.call-reply.ensures.step;
-        drivers = c.call-reply.ensures.drivers;
+        given = c.call-reply.ensures.given;
         certifies = refl;
         last = refl;
         block = subst (λ k. LeavesBlock {A = g.row.A.Denot} k (map_before k book.granule entries asked) returned block.Nothing) (sym c.if-self.false) none;

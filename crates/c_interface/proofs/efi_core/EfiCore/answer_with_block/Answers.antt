@@ -21,7 +21,7 @@ returns g c =
       answer,
       record {
         step = c.call-reply.ensures.step;
-        drivers = c.call-reply.ensures.drivers;
+        given = c.call-reply.ensures.given;
         certifies = refl;
         last = refl;
         block = subst (λ k. LeavesBlock k (map_before k book.granule entries asked) (certified book.granule asked answer) left) (sym (certifies ∙ c.requires.certifies)) block;

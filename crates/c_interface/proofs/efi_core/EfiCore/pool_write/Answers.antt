@@ -6,10 +6,10 @@ use Rattle.c_interface.proofs.efi_core.EfiCore.pool_write.Goals as goal
 
 pub returns-in-Ok : goal.returns-in-Ok
 returns-in-Ok g c =
-    let served = reply_left c.args.self.now _ c.return_brief.new.self c.pool_write.new.self (call.PoolWrite c.args.address c.args.bytes.now) (reply.PoolWrite (Ok tt)) (c.self.view_is ∙ c.begin.ensures.core) (search rules) c.in-Ok.ensures.step c.in-Ok.ensures.drivers c.return_brief.ensures.core in
+    let served = reply_left c.args.self.now _ c.return_brief.new.self c.pool_write.new.self (call.PoolWrite c.args.address c.args.bytes.now) (reply.PoolWrite (Ok tt)) (c.self.view_is ∙ c.begin.ensures.core) (search rules) c.in-Ok.ensures.step c.in-Ok.ensures.given c.return_brief.ensures.core in
     inl (reply.PoolWrite (Ok tt), served, c.return_brief.ensures.status, tt)
 
 pub returns-in-Err : goal.returns-in-Err
 returns-in-Err g c =
-    let served = reply_left c.args.self.now _ c.return_brief-in-Err.new.self c.pool_write.new.self (call.PoolWrite c.args.address c.args.bytes.now) (reply.PoolWrite (Err c.in-Err.status)) (c.self.view_is ∙ c.begin.ensures.core) (search rules) c.in-Err.ensures.step c.in-Err.ensures.drivers c.return_brief-in-Err.ensures.core in
+    let served = reply_left c.args.self.now _ c.return_brief-in-Err.new.self c.pool_write.new.self (call.PoolWrite c.args.address c.args.bytes.now) (reply.PoolWrite (Err c.in-Err.status)) (c.self.view_is ∙ c.begin.ensures.core) (search rules) c.in-Err.ensures.step c.in-Err.ensures.given c.return_brief-in-Err.ensures.core in
     inl (reply.PoolWrite (Err c.in-Err.status), served, c.return_brief-in-Err.ensures.status, tt)
