@@ -1,2 +1,3 @@
+mod MadeOver
 pub mod Moves
 pub mod Pairs

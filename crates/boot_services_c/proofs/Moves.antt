@@ -4,7 +4,7 @@
 --     moved           it returns the value that it is handed
 use Rattle.std.proofs.Common.{◌≡◌, [], ◌∷◌, List, refl}
 use seplogic.Ra.Ura.{Ura}
-use mir.Syntax.{Body, Fn, Sym, Ty, assign, aggregate, copy, field, local, place, rv_opd, return, seq, tcons, tnil, ty_ptr, ty_struct, value_local}
+use mir.Syntax.{Fn, Sym, Ty, assign, aggregate, copy, field, local, place, rv_opd, return, seq, tcons, tnil, ty_ptr, ty_struct, value_local}
 use mir.Val.{Val}
 use base.Fml.{Fml}
 use base.Logic.{SProp, ent}
@@ -19,7 +19,6 @@ use denote.Laws.{Is}
 use denote.RawPtr.{Ptr, ptr_val, rawptr_Tells}
 use denote.Struct.Struct.{Struct, Struct-Tells}
 use Rattle.std.proofs.alloc.Global.TheLaws as heap
-use Rattle.std.proofs.cell.Inside.{Good}
 use Rattle.std.specs.contracts.alloc.Global.{the_row as Heap}
 use Rattle.std.specs.declared.alloc.Global.{Global}
 use Rattle.boot_services_c.proofs.Pairs.{of_two, pair, pair_fits, ptr_fits}

@@ -2,10 +2,9 @@
 --     pair, pair_fits      its machine value, which is of its type
 --     parted, paired       what it owns is that value and what the handle owns;  and back
 use Rattle.std.proofs.Common.{◌≡◌, List, [], ◌∷◌, ◌++◌, refl, ◌∙◌, ap, lit<, subst}
-use lib.Dec.{T}
 use seplogic.Ra.Ura.{Ura}
 use mir.Syntax.{Ty, ty_ptr, ty_struct, tcons, tnil}
-use mir.Val.{Val, vptr, vstruct, vcons, vnil, of_list, has_ty, WT}
+use mir.Val.{Val, vstruct, vcons, vnil, of_list}
 use denote.Builtin.{RawPtr}
 use denote.Laws.{Is, Typed, shows}
 use denote.Param.{layout}

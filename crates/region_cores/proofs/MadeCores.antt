@@ -3,9 +3,9 @@ use Rattle.std.proofs.Common.{◌≡◌, ℕ, List, Option, Some, None, IfSome, 
 use Rattle.std.specs.Option.{ok_or}
 use Rattle.c_machines.specs.declared.drivers.DriverTable.{DriverTable}
 use Rattle.c_interface.specs.EfiCores.{EfiCoreValue}
-use Rattle.c_interface.specs.Making.{MakesCore}
+use Rattle.c_interface.specs.Making.{LiesFrom, MakesCore}
 use Rattle.region_cores.specs.Cores.{CoreHeap}
-use Rattle.region_cores.specs.MadeCores.{Holds, MakesPlace, Refuses}
+use Rattle.region_cores.specs.MadeCores.{Holds, HoldsOver, MakesPlace, Refuses}
 use Rattle.region_cores.specs.Places.{Held}
 use Rattle.region_cores.specs.declared.place.Place.{Place}
 
@@ -18,12 +18,14 @@ module _ (size : ℕ) (records : List ℕ) (granule : ℕ) (tables : List Driver
   made None status h refused = refused
   made (Some place) status h refused = held place.held h
 
--- and its pool lies where it was made to lie
-module _ (core : EfiCoreValue CoreHeap) (P : EfiCoreValue CoreHeap → Type 0) (is : P core) where
-  held_so : (h : Held) → MatchOption h ⊥ (λ handle. handle.core ≡ core) → MatchOption h ⊥ (λ handle. P handle.core)
-  held_so None h = h
-  held_so (Some handle) e = subst P (sym e) is
+-- and where pages are asked for, its pool lies in them
+module _ (core : EfiCoreValue CoreHeap) where
+  held_over : (first : ℕ) (h : Held) → LiesFrom first core → MatchOption h ⊥ (λ handle. handle.core ≡ core) → HoldsOver first h
+  held_over first None lies h = h
+  held_over first (Some handle) lies e = subst (LiesFrom first) (sym e) lies
 
-  pub made_so : (o : Option Place) (status : ℕ) → IfSome o (λ place. MatchOption place.held ⊥ (λ handle. handle.core ≡ core)) → IfOk (ok_or o status) (λ place. MatchOption place.held ⊥ (λ handle. P handle.core))
-  made_so None status h = tt
-  made_so (Some place) status h = held_so place.held h
+  pub made_over : {R : Type 0} (pages : Option (R × ℕ)) (o : Option Place) (status : ℕ) → IfSome pages (λ p. LiesFrom p.1 core) → IfSome o (λ place. MatchOption place.held ⊥ (λ handle. handle.core ≡ core)) →
+      IfOk (ok_or o status) (λ place. IfSome pages (λ p. HoldsOver p.1 place.held))
+  made_over pages None status lies h = tt
+  made_over None (Some place) status lies h = tt
+  made_over (Some p) (Some place) status lies h = held_over p.1 place.held lies h

@@ -25,7 +25,7 @@ use denote.Triple.Spec.{triple_of}
 use denote.Triple.Table.{framed}
 use denote.Triple.Walked.{Goes-dropped, Stays, ends_at, stay_dropped, walk_of}
 use types.ByLocal.{alloc_all, env, free_all, get, lands_last, look_at, pass_all, sets}
-use types.Kit.{Sq, prop, ‵, raw, ◌⊛◌, at_ret, given, later, some, ◌$◌, ◌∵◌, !, qed, await, by, done, drop, feq_i, feq_l, fjoin, fpick, fsplit, group, join, keep, learn, move, pick, split, suffices, use1}
+use types.Kit.{Sq, prop, ‵, raw, ◌⊛◌, at_ret, given, later, some, ◌$◌, ◌∵◌, !, qed, await, by, done, drop, feq_i, feq_l, fjoin, fpick, group, join, keep, learn, move, pick, split, suffices, use1}
 use types.Logic.{Logic, sem}
 use types.Part.{agg}
 use types.Run.{and_then, bin, branches, enter, exec, first, lit, no_more, of_opd, returns, skips, un, unit_lit}

@@ -1,7 +1,7 @@
 -- The box owns what the block owns.
 use Rattle.std.proofs.Common.{◌≡◌, List, [], ◌∷◌, ◌++◌, refl}
 use mir.MapTy.{inst_fn}
-use mir.Syntax.{Args, Dict, Fn, a_type, dcons, dnil}
+use mir.Syntax.{Args, Dict, a_type, dcons, dnil}
 use mir.Val.{Val}
 use base.Logic.{id⊢}
 use base.Fml.{ftrue}
@@ -10,7 +10,7 @@ use contract.Monad.{fact}
 use contract.Running.{tables}
 use denote.Exit.{no}
 use denote.Param.{param, layout, bounded}
-use denote.Param.Laws.{Laws, param_laws}
+use denote.Param.Laws.{param_laws}
 use denote.Laws.{Is, shows}
 use denote.RattleType.{RattleType, owns}
 use denote.RawPtr.{ptr_val}
@@ -37,7 +37,6 @@ use Rattle.std_alloc.specs.contracts.boxed.Box as box
 use Rattle.std_alloc.specs.contracts.boxed.Box.from_raw as g
 use Rattle.boot_services_c.proofs.Pairs.{pair, pair_fits, ptr_fits, parted}
 use Rattle.boot_services_c.specs.contracts.blocks.Block as block
-use Rattle.boot_services_c.specs.declared.blocks.Block.{Block}
 use Rattle.boot_services_c.specs.contracts.blocks.Block.boxed as f
 use Rattle.boot_services_c.proofs.blocks.Block.boxed.Statement.{statement}
 use Rattle.boot_services_c.proofs.blocks.Block.boxed.Code as code

@@ -1,10 +1,9 @@
 -- The block owns what the box owns.
 use Rattle.std.proofs.Common.{◌≡◌, List, [], ◌∷◌, ◌++◌, refl, sym, ap, subst}
 use mir.MapTy.{inst_fn}
-use mir.Syntax.{Args, Dict, Fn, a_type, dcons, dnil}
+use mir.Syntax.{Args, Dict, a_type, dcons, dnil}
 use mir.Val.{Val}
 use base.Logic.{SProp, ent, id⊢}
-use base.Fml.{Fml, flft, fsep, ftrue}
 use contract.Monad.{fact}
 use contract.Running.{tables}
 use denote.Builtin.{RawPtr}
@@ -24,7 +23,7 @@ use denote.Triple.Table.{framed}
 use denote.Triple.Walked.{Stays, stay_dropped, walk_of, says, ends_at}
 use prog.Wp.{WpFn}
 use types.ByLocal.{alloc_all, pass_all, free_all, look_at, get, get_in, sets, lands_as}
-use types.Kit.{‵, raw, ◌⊛◌, some, later, prop, ◌$◌, ◌∵◌, !, qed, await, done, drop, fjoin, group, join, move, pick, regoal, rewrite, split, suffices, use1}
+use types.Kit.{‵, raw, ◌⊛◌, some, later, ◌$◌, ◌∵◌, !, qed, await, done, drop, fjoin, group, join, move, pick, rewrite, split, suffices, use1}
 use types.Part.{agg, sub, whole}
 use types.Run.{stop, fld, of_opd, no_more, and_then, returns, enter}
 use Rattle.std.proofs.alloc.Calls.{Goes-blank}
@@ -37,8 +36,6 @@ use Rattle.std_alloc.specs.contracts.boxed.Box as box
 use Rattle.std_alloc.specs.contracts.boxed.Box.into_raw_with_allocator as g
 use Rattle.std.specs.Box.Ownership.{box_owns}
 use Rattle.boot_services_c.proofs.Pairs.{pair, pair_fits, ptr_fits, parted, paired}
-use Rattle.boot_services_c.specs.contracts.blocks.Block as block
-use Rattle.boot_services_c.specs.declared.blocks.Block.{Block}
 use Rattle.boot_services_c.specs.contracts.blocks.Block.new as f
 use Rattle.boot_services_c.proofs.blocks.Block.new.Statement.{statement}
 use Rattle.boot_services_c.proofs.blocks.Block.new.Code as code
