@@ -424,7 +424,7 @@ static EFI_STATUS EFIAPI CloseEvent(EFI_EVENT event)
         link = &(*link)->next;
     *link = gone->next;
     closed[gone->number % LENGTH(closed)].number = gone->number;
-    closed[gone->number % LENGTH(closed)].by = origin_without_trail();
+    closed[gone->number % LENGTH(closed)].by = origin_without_callers();
     free(gone);
     ANSWER(EFI_SUCCESS);
 }

@@ -8,8 +8,8 @@
 
 struct one_finding {
     enum finding kind;
-    struct origin origin;
-    uint64_t stacks, count;
+    struct origin origin, other;
+    uint64_t count;
     char text[400];
 };
 static struct one_finding *findings;
@@ -30,12 +30,14 @@ const char *finding_name(enum finding kind)
     return names[kind];
 }
 
-/* The finding of this kind, and of these stacks, that is there already, or NULL. Each leak is one of
- * its own. */
-static struct one_finding *same_finding(enum finding kind, uint64_t stacks)
+/* The finding of this kind, and of these places and callers, that is there already, or NULL. Each leak
+ * is one of its own. */
+static struct one_finding *same_finding(enum finding kind, const struct origin *origin,
+                                        const struct origin *other)
 {
     for (size_t i = 0; kind != LEAK && i < finding_count; i++)
-        if (findings[i].kind == kind && findings[i].stacks == stacks)
+        if (findings[i].kind == kind && same_origin(&findings[i].origin, origin) &&
+            same_origin(&findings[i].other, other))
             return &findings[i];
     return NULL;
 }
@@ -46,10 +48,10 @@ static void print_finding(const struct one_finding *one)
     fprintf(stderr, "efihost:   at %s\n", origin_text(&one->origin));
 }
 
-static void note(enum finding kind, const struct origin *origin, uint64_t stacks,
+static void note(enum finding kind, const struct origin *origin, const struct origin *other,
                  const char *format, va_list words)
 {
-    struct one_finding *one = same_finding(kind, stacks);
+    struct one_finding *one = same_finding(kind, origin, other);
 
     if (one != NULL) {
         one->count++;
@@ -59,7 +61,7 @@ static void note(enum finding kind, const struct origin *origin, uint64_t stacks
     one = &findings[finding_count++];
     one->kind = kind;
     one->origin = *origin;
-    one->stacks = stacks;
+    one->other = *other;
     one->count = 1;
     vsnprintf(one->text, sizeof one->text, format, words);
     fflush(stdout);
@@ -69,11 +71,12 @@ static void note(enum finding kind, const struct origin *origin, uint64_t stacks
 /* Notes a finding: `origin` is the code that is to blame, or that made the block that was harmed. */
 void found(enum finding kind, const struct origin *origin, const char *format, ...)
 {
+    const struct origin none = {0};
     va_list words;
 
     va_start(words, format);
     if (host.checks)
-        note(kind, origin, origin->stack, format, words);
+        note(kind, origin, &none, format, words);
     va_end(words);
 }
 
@@ -85,7 +88,7 @@ void found_with(enum finding kind, const struct origin *origin, const struct ori
 
     va_start(words, format);
     if (host.checks)
-        note(kind, origin, origin->stack + 3 * other->stack, format, words);
+        note(kind, origin, other, format, words);
     va_end(words);
 }
 
@@ -155,7 +158,7 @@ static void add_leak(struct leaks *leaks, const struct origin *origin, uint64_t 
 
     if (origin->image != leaks->image)
         return;
-    while (i < leaks->group_count && leaks->groups[i].origin.stack != origin->stack)
+    while (i < leaks->group_count && !same_origin(&leaks->groups[i].origin, origin))
         i++;
     if (i == leaks->room) {
         leaks->room = leaks->room == 0 ? 16 : 2 * leaks->room;
@@ -231,7 +234,7 @@ void look_for_leaks(struct image *image, const char *when)
     each_held(say_held, &leaks);
     events = events_of(image);
     if (events > 0) {
-        struct origin origin = {image, image->entry - image->base, 0, 0, {{NULL, 0}}};
+        struct origin origin = {image, image->entry - image->base, 0, NULL};
 
         found(LEAK, &origin, "%s %s: left %zu of its events", image->name, when, events);
     }

@@ -152,7 +152,7 @@ static void close_file(struct open_file *it)
     else
         close(it->file);
     it->open = false;
-    it->closed = origin_without_trail();
+    it->closed = origin_without_callers();
     closed_count++;
 }
 

@@ -24,16 +24,20 @@
 
 struct image;
 
+/* A caller, by its offset in an image, and those before it. Equal ones are kept once. */
+struct caller {
+    struct image *image;
+    uint64_t address;
+    const struct caller *outer;
+    struct caller *next;
+};
+
 /* Where something was asked for: the image whose code called (NULL: the host), the offset in it or,
- * without an image, the address, the number of the call, and who called before: the nearest callers,
- * and a number for the whole stack of them. */
+ * without an image, the address, the number of the call, and all callers before. */
 struct origin {
     struct image *image;
-    uint64_t address, call, stack;
-    struct {
-        struct image *image;
-        uint64_t address;
-    } trail[TRAIL];
+    uint64_t address, call;
+    const struct caller *callers;
 };
 
 /* A service that is being called; `outer` is the one in which the caller's code was called. */
@@ -191,7 +195,9 @@ const char *missing_name(size_t index);
 bool behind_call(const struct image *image, uint64_t address);
 struct origin origin_at(uint64_t caller);
 struct origin origin_now(void);
-struct origin origin_without_trail(void);
+struct origin origin_without_callers(void);
+bool same_origin(const struct origin *one, const struct origin *other);
+void forget_stacks(void);
 
 /* ---- machine.c ---- */
 struct machine_range {

@@ -121,6 +121,7 @@ EFI_STATUS load_image(EFI_HANDLE parent, const void *path, const uint8_t *data, 
         host.images_start = image->base;
     if (image->base + image->size > host.images_end)
         host.images_end = image->base + image->size;
+    forget_stacks();
     host.call = call;
     *loaded = image;
     return status;
@@ -148,6 +149,7 @@ EFI_STATUS unload_image(struct image *image)
         host_free_pool(image->path);
     open_memory(image->base, image->size);
     image->gone = true;
+    forget_stacks();
     host_free_pages(image->placed, image->pages);
     host.call = call;
     return EFI_SUCCESS;

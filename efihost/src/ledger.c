@@ -166,7 +166,7 @@ void ledger_each_run(void (*visit)(struct run *run, void *context), void *contex
 
 void ledger_add_freed(uint64_t at, uint64_t pages, struct origin made)
 {
-    freed[freed_next++ % FREED] = (struct freed_run){at, pages, made, origin_without_trail()};
+    freed[freed_next++ % FREED] = (struct freed_run){at, pages, made, origin_without_callers()};
 }
 
 /* The latest run that was freed with an address in it. */

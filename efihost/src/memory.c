@@ -180,7 +180,7 @@ EFI_STATUS host_free_pages(uint64_t at, uint64_t pages)
     status = core_free_pages(start, (end - start) / PAGE);
     if (status != EFI_SUCCESS)
         return status;
-    map_change = origin_without_trail();
+    map_change = origin_without_callers();
     ledger_cut_runs(start, (end - start) / PAGE);
     shut_memory(start, end - start);
     ledger_add_freed(at, pages, made);
@@ -230,7 +230,7 @@ EFI_STATUS host_free_pool(void *address)
     status = core_free_pool(block->core_at);
     if (status != EFI_SUCCESS)
         return status;
-    block->freed = map_change = origin_without_trail();
+    block->freed = map_change = origin_without_callers();
     if (block->room == 0)
         ledger_drop_block(block);
     else

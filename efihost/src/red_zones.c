@@ -13,6 +13,7 @@
 #define FRESH 0xaf
 #define MAX_FRESH 4096U /* of a block, to keep large ones cheap */
 #define GONE 0xdd
+#define FILLED 1024U
 #define MARGIN 32U
 #define FRONT 40U /* bytes before a block, whose address is 8 more than a multiple of 32 as the core's */
 
@@ -30,6 +31,15 @@ static uint64_t shut_page(const struct block *block)
 static uint64_t behind_end(const struct block *block)
 {
     return block->paged ? shut_page(block) : block->at + block->size + MARGIN;
+}
+
+/* In pieces for which the C library takes no string instruction: these begin slowly, and valgrind counts
+ * their bytes one by one. */
+static void fill(uint64_t at, uint64_t end, uint8_t pattern)
+{
+    for (; end - at > FILLED; at += FILLED)
+        memset(POINTER(at), pattern, FILLED);
+    memset(POINTER(at), pattern, end - at);
 }
 
 /* Finds the place of a block and lays the patterns. Where the process has no memory for that, it is
@@ -51,9 +61,9 @@ void zone_make(struct block *block)
     } else {
         block->at = block->start + FRONT;
     }
-    memset(POINTER(block->start), BEFORE, block->at - block->start);
-    memset(POINTER(block->at), FRESH, block->size < MAX_FRESH ? block->size : MAX_FRESH);
-    memset(POINTER(block->at + block->size), BEHIND, behind_end(block) - block->at - block->size);
+    fill(block->start, block->at, BEFORE);
+    fill(block->at, block->at + (block->size < MAX_FRESH ? block->size : MAX_FRESH), FRESH);
+    fill(block->at + block->size, behind_end(block), BEHIND);
 }
 
 /* The first of these bytes that is not the pattern, or their end. Where all of them are, each is
@@ -97,16 +107,15 @@ void zone_look(struct block *block, const char *when)
               seen(when, text, sizeof text));
         return;
     }
-    for (other = at; other > (const uint8_t *)POINTER(block->start); other--)
-        if (other[-1] != BEFORE) {
-            block->harmed = true;
-            found(BEFORE_BLOCK, &block->origin,
-                  "byte %lu before a block of %lu bytes at 0x%lx was written, 0x%02x, seen %s; it "
-                  "is allocated",
-                  (uint64_t)(at - other) + 1, block->size, block->at, other[-1],
-                  seen(when, text, sizeof text));
-            return;
-        }
+    if (first_other(POINTER(block->start), at, BEFORE) == at)
+        return;
+    block->harmed = true;
+    for (other = at - 1; *other == BEFORE; other--)
+        ;
+    found(BEFORE_BLOCK, &block->origin,
+          "byte %lu before a block of %lu bytes at 0x%lx was written, 0x%02x, seen %s; it is "
+          "allocated",
+          (uint64_t)(at - other), block->size, block->at, *other, seen(when, text, sizeof text));
 }
 
 /* After the core has freed a block. */
@@ -115,7 +124,7 @@ void zone_free(const struct block *block, bool held_back)
     if (block->paged)
         shut_memory(block->start, up(block->size, PAGE));
     else if (held_back)
-        memset(POINTER(block->at), GONE, block->size);
+        fill(block->at, block->at + block->size, GONE);
 }
 
 /* Looks whether a freed block, whose bytes nobody should have written, was. */

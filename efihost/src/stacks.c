@@ -1,13 +1,14 @@
 /* Who called whom: where a service is called or an image stops, and all callers before.
  *
  * Images say nothing of their stack. How much of it a function takes is read from its code: from what
- * it gives back after an instruction, before it ends, or, where that is not plain, from what it takes
- * at its beginning, which is where a call goes whose return address may lie on the stack. Both are
- * kept once they are known. If neither shows it, the first word of the stack counts that points behind
- * a call instruction; such a word may be left from an earlier call. */
+ * it gives back on a path from an instruction to its end, or, where that is not plain, from what it
+ * takes at its beginning, which is where a call goes whose return address may lie on the stack. Both
+ * are kept once they are known. If neither shows it, the first word of the stack counts that points
+ * behind a call instruction; such a word may be left from an earlier call. */
 #include "host.h"
 
 #include <Zydis/Zydis.h>
+#include <stdlib.h>
 #include <string.h>
 #ifdef IN_VALGRIND
 #include <valgrind/memcheck.h>
@@ -16,11 +17,11 @@
 #endif
 
 #define LOOKED_AT 512U /* words of the stack */
-#define MAX_FRAMES 32U
+#define MAX_FRAMES 256U
 #define MAX_STEPS 40U   /* instructions at the beginning of a function */
-#define MAX_AHEAD 400U  /* and up to an end */
+#define MAX_AHEAD 4096U /* and up to an end */
 #define FUNCTION 65536U /* bytes of code */
-#define KEPT 4096U
+#define LISTS 16384U
 #define UNKNOWN UINT64_MAX
 /* All of the stack is read, which a sanitizer would not have. */
 #define NOT_SANITIZED __attribute__((no_sanitize_address))
@@ -31,14 +32,31 @@ struct frame {
 };
 
 /* Bytes of the stack: those between the stack pointer at an instruction and the return address of its
- * function, and those that a function takes at its beginning. */
+ * function, or those that a function takes at its beginning, by who looked. */
 static struct kept {
     uint64_t at, size;
-} taken_at[KEPT], taken_by[KEPT];
+    uint64_t (*look)(uint64_t at);
+    struct kept *next;
+} *kept_lists[LISTS];
 
-static size_t kept_place(uint64_t at)
+/* What was passed on the way to the end of a function: the jumps that were taken, and what lies behind
+ * calls, with what the function gave back of the stack before. */
+struct path {
+    uint64_t jumps[64];
+    size_t jump_count;
+    struct {
+        uint64_t at, given;
+    } calls[256];
+    size_t call_count;
+};
+
+static uint64_t look_ahead(uint64_t at);
+static struct caller *caller_lists[LISTS];
+
+static size_t list_of(uint64_t number)
 {
-    return (at ^ at >> 12) % KEPT;
+    number *= 0x9e3779b97f4a7c15ULL;
+    return (number >> 32) % LISTS;
 }
 
 /* Whether the bytes before an address are a call instruction. */
@@ -61,31 +79,40 @@ bool behind_call(const struct image *image, uint64_t address)
 /* Decodes the instruction at an address; false where there is none of an image. */
 static bool decode(uint64_t at, ZydisDecodedInstruction *it)
 {
+    static ZydisDecoder decoder;
+    static bool is_ready;
     const struct image *image = image_at(at);
-    ZydisDecoder decoder;
 
-    ZydisDecoderInit(&decoder, ZYDIS_MACHINE_MODE_LONG_64, ZYDIS_STACK_WIDTH_64);
+    if (!is_ready) {
+        is_ready = true;
+        ZydisDecoderInit(&decoder, ZYDIS_MACHINE_MODE_LONG_64, ZYDIS_STACK_WIDTH_64);
+        ZydisDecoderEnableMode(&decoder, ZYDIS_DECODER_MODE_MINIMAL, ZYAN_TRUE);
+    }
     return image != NULL &&
            ZYAN_SUCCESS(ZydisDecoderDecodeInstruction(
                &decoder, NULL, POINTER(at), image->size - (at - image->base), it));
 }
 
-/* Adds to `size` what an instruction takes of the stack, or with `back` what it gives back. False
- * where it changes the stack pointer in another way. */
-static bool add_taken(const ZydisDecodedInstruction *it, bool back, uint64_t *size)
+/* Adds to `size` what an instruction gives back of the stack. False where it changes the stack pointer
+ * in a way that the code alone does not show. */
+static bool add_given(const ZydisDecodedInstruction *it, uint64_t *size)
 {
     bool names = it->raw.modrm.mod == 3 && it->raw.modrm.rm == 4 && it->raw.rex.B == 0;
+    uint64_t number = names ? it->raw.imm[0].value.u : 0;
 
     switch (it->mnemonic) {
     case ZYDIS_MNEMONIC_PUSH:
+    case ZYDIS_MNEMONIC_PUSHFQ:
+        *size -= 8;
+        return true;
     case ZYDIS_MNEMONIC_POP:
+    case ZYDIS_MNEMONIC_POPFQ:
         *size += 8;
-        return (it->mnemonic == ZYDIS_MNEMONIC_POP) == back;
+        return true;
     case ZYDIS_MNEMONIC_SUB:
     case ZYDIS_MNEMONIC_ADD:
-        if (names)
-            *size += it->raw.imm[0].value.u;
-        return !names || ((it->mnemonic == ZYDIS_MNEMONIC_ADD) == back && it->raw.imm[0].size != 0);
+        *size += it->mnemonic == ZYDIS_MNEMONIC_ADD ? number : -number;
+        return !names || it->raw.imm[0].size != 0;
     case ZYDIS_MNEMONIC_MOV:
     case ZYDIS_MNEMONIC_LEA:
         return it->opcode == 0x89 ? !names : it->raw.modrm.reg != 4 || it->raw.rex.R != 0 ||
@@ -98,22 +125,91 @@ static bool add_taken(const ZydisDecodedInstruction *it, bool back, uint64_t *si
     }
 }
 
-/* What the function with an instruction gives back from there on, before it ends or goes on to
- * another. */
-static uint64_t look_ahead(uint64_t at)
+static struct kept *kept_already(uint64_t at, uint64_t (*look)(uint64_t at))
+{
+    struct kept *it = kept_lists[list_of(at)];
+
+    while (it != NULL && (it->at != at || it->look != look))
+        it = it->next;
+    return it;
+}
+
+static struct kept *keep(uint64_t at, uint64_t (*look)(uint64_t at), uint64_t size)
+{
+    struct kept *it = must(malloc(sizeof *it)), **list = &kept_lists[list_of(at)];
+
+    *it = (struct kept){at, size, look, *list};
+    return *list = it;
+}
+
+static struct kept *kept(uint64_t at, uint64_t (*look)(uint64_t at))
+{
+    struct kept *it = kept_already(at, look);
+
+    return it == NULL ? keep(at, look, look(at)) : it;
+}
+
+/* Whether a function ends here. At its calls the stack pointer is a multiple of 16, behind its return
+ * address 8 more: so a jump by a register or memory may be its last call, or stay in it. */
+static bool is_end(const ZydisDecodedInstruction *it, uint64_t given)
+{
+    return it->mnemonic == ZYDIS_MNEMONIC_RET ||
+           (it->mnemonic == ZYDIS_MNEMONIC_JMP && !it->raw.imm[0].is_relative && given % 16 == 8);
+}
+
+/* Whether a jump shows where it goes and was not taken before. */
+static bool takes_jump(const ZydisDecodedInstruction *it, uint64_t at, struct path *path)
+{
+    if (it->mnemonic != ZYDIS_MNEMONIC_JMP || !it->raw.imm[0].is_relative ||
+        path->jump_count == LENGTH(path->jumps))
+        return false;
+    for (size_t i = 0; i < path->jump_count; i++)
+        if (path->jumps[i] == at)
+            return false;
+    path->jumps[path->jump_count++] = at;
+    return true;
+}
+
+/* Goes on from an instruction to the end of its function: on the path that takes each jump once, and
+ * none with a condition. What is given back on it, or UNKNOWN. */
+static uint64_t follow(uint64_t at, struct path *path)
 {
     ZydisDecodedInstruction it;
-    uint64_t size = 0;
+    uint64_t given = 0;
 
     for (unsigned i = 0; i < MAX_AHEAD && decode(at, &it); i++) {
-        bool ends = it.mnemonic == ZYDIS_MNEMONIC_RET ||
-                    (it.mnemonic == ZYDIS_MNEMONIC_JMP && size != 0);
+        const struct kept *there;
 
-        if (ends || !add_taken(&it, true, &size))
-            return ends ? size : UNKNOWN;
-        at += it.length;
+        if (is_end(&it, given))
+            return given;
+        if (!add_given(&it, &given))
+            return UNKNOWN;
+        at += it.length + (takes_jump(&it, at, path) ? it.raw.imm[0].value.u : 0);
+        if (it.mnemonic != ZYDIS_MNEMONIC_CALL)
+            continue;
+        there = kept_already(at, look_ahead);
+        if (there != NULL)
+            return there->size == UNKNOWN ? UNKNOWN : given + there->size;
+        if (path->call_count < LENGTH(path->calls)) {
+            path->calls[path->call_count].at = at;
+            path->calls[path->call_count++].given = given;
+        }
     }
     return UNKNOWN;
+}
+
+/* What the function with an instruction gives back from there on. That is known behind all calls on
+ * the way then too. */
+static uint64_t look_ahead(uint64_t at)
+{
+    static struct path path;
+    uint64_t size;
+
+    path.jump_count = path.call_count = 0;
+    size = follow(at, &path);
+    for (size_t i = 0; i < path.call_count; i++)
+        keep(path.calls[i].at, look_ahead, size == UNKNOWN ? size : size - path.calls[i].given);
+    return size;
 }
 
 /* What a function takes before its first call, or before it ends. One that only goes on to another
@@ -121,30 +217,31 @@ static uint64_t look_ahead(uint64_t at)
 static uint64_t look_at_function(uint64_t at)
 {
     ZydisDecodedInstruction it;
-    uint64_t size = 0;
+    uint64_t given = 0;
 
     for (unsigned i = 0; i < MAX_STEPS && decode(at, &it); i++) {
-        bool goes_on = it.mnemonic == ZYDIS_MNEMONIC_JMP && size == 0 && it.raw.imm[0].is_relative;
+        bool goes_on = it.mnemonic == ZYDIS_MNEMONIC_JMP && given == 0 && it.raw.imm[0].is_relative;
 
         if (it.mnemonic == ZYDIS_MNEMONIC_CALL || it.mnemonic == ZYDIS_MNEMONIC_RET ||
             (it.mnemonic == ZYDIS_MNEMONIC_JMP && !goes_on))
-            return size;
-        if (!add_taken(&it, false, &size))
+            break;
+        if (!add_given(&it, &given))
             return UNKNOWN;
         at += it.length + (goes_on ? it.raw.imm[0].value.u : 0);
     }
-    return size;
+    return -given;
 }
 
-static struct kept *kept(struct kept *list, uint64_t at, uint64_t (*look)(uint64_t at))
+/* Forgets all that was read from code, where there is other code now. */
+void forget_stacks(void)
 {
-    struct kept *it = &list[kept_place(at)];
+    for (size_t i = 0; i < LISTS; i++)
+        while (kept_lists[i] != NULL) {
+            struct kept *gone = kept_lists[i];
 
-    if (it->at != at) {
-        it->size = look(at);
-        it->at = at;
-    }
-    return it;
+            kept_lists[i] = gone->next;
+            free(gone);
+        }
 }
 
 /* ---- Who called ---- */
@@ -162,7 +259,7 @@ static bool is_sure(uint64_t address, uint64_t inner, uint64_t size)
     memcpy(&distance, call + 1, 4);
     function = address + (uint64_t)(int64_t)distance;
     return inner - function < FUNCTION &&
-           kept(taken_by, function, look_at_function)->size == size;
+           kept(function, look_at_function)->size == size;
 }
 
 /* The first of these words that points to where images are, or their end. */
@@ -231,7 +328,7 @@ NOT_SANITIZED static bool look_for_caller(struct frame *frame, struct kept *take
 
 static bool next_frame(struct frame *frame)
 {
-    struct kept *taken = kept(taken_at, frame->at, look_ahead);
+    struct kept *taken = kept(frame->at, look_ahead);
     uint64_t at = frame->stack + taken->size;
     bool found;
 
@@ -263,44 +360,46 @@ static bool first_frame(struct frame *frame, uint64_t caller)
     return true;
 }
 
-static uint64_t mixed(uint64_t stack, const struct image *image, uint64_t address)
+/* A caller and those before it; the same ones are the same. */
+static const struct caller *caller_at(const struct frame *frame, const struct caller *outer)
 {
-    stack = (stack ^ address ^ NUMBER(image)) * 0x9e3779b97f4a7c15ULL;
-    return stack ^ stack >> 29;
+    struct image *image = image_at(frame->at);
+    struct caller **list = &caller_lists[list_of(frame->at ^ NUMBER(outer) << 20)], *it = *list;
+    const struct caller made = {image, frame->at - image->base, outer, *list};
+
+    while (it != NULL && (it->image != image || it->address != made.address || it->outer != outer))
+        it = it->next;
+    if (it == NULL)
+        *list = it = memcpy(must(malloc(sizeof made)), &made, sizeof made);
+    return it;
 }
 
-/* An image may have given back the memory that is read here, which then is found: not in here. */
-static void walk(struct origin *origin, uint64_t caller)
+/* All callers. An image may have given back the memory that is read here, which then is found: not in
+ * here. */
+static const struct caller *callers_of(uint64_t caller)
 {
+    static struct frame frames[MAX_FRAMES];
     static bool walking;
+    const struct caller *callers = NULL;
     struct frame frame;
+    size_t count = 0;
 
     if (walking || !first_frame(&frame, caller))
-        return;
+        return NULL;
     walking = true;
-    for (unsigned i = 0; i < MAX_FRAMES && next_frame(&frame); i++) {
-        struct image *image = image_at(frame.at);
-        uint64_t offset = frame.at - image->base;
-
-        origin->stack = mixed(origin->stack, image, offset);
-        if (i >= TRAIL)
-            continue;
-        origin->trail[i].image = image;
-        origin->trail[i].address = offset;
-    }
+    while (count < MAX_FRAMES && next_frame(&frame))
+        frames[count++] = frame;
+    while (count > 0)
+        callers = caller_at(&frames[--count], callers);
     walking = false;
+    return callers;
 }
 
 static struct origin place_of(uint64_t caller)
 {
-    struct origin origin;
+    struct image *image = image_at(caller);
 
-    memset(&origin, 0, sizeof origin);
-    origin.image = image_at(caller);
-    origin.address = origin.image == NULL ? caller : caller - origin.image->base;
-    origin.stack = mixed(0, origin.image, origin.address);
-    origin.call = host.calls;
-    return origin;
+    return (struct origin){image, image == NULL ? caller : caller - image->base, host.calls, NULL};
 }
 
 struct origin origin_at(uint64_t caller)
@@ -308,12 +407,12 @@ struct origin origin_at(uint64_t caller)
     struct origin origin = place_of(caller);
 
     if (host.checks && origin.image != NULL)
-        walk(&origin, caller);
+        origin.callers = callers_of(caller);
     return origin;
 }
 
-/* The call that is under way, without its callers, whom it takes long to find. */
-struct origin origin_without_trail(void)
+/* The call that is under way, without its callers. */
+struct origin origin_without_callers(void)
 {
     return place_of(host.call == NULL ? 0 : host.call->caller);
 }
@@ -322,4 +421,11 @@ struct origin origin_without_trail(void)
 struct origin origin_now(void)
 {
     return origin_at(host.call == NULL ? 0 : host.call->caller);
+}
+
+/* Whether two have the same place and the same callers. */
+bool same_origin(const struct origin *one, const struct origin *other)
+{
+    return one->image == other->image && one->address == other->address &&
+           one->callers == other->callers;
 }

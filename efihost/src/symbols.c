@@ -236,11 +236,12 @@ const char *origin_text(const struct origin *origin)
     static char turns[4][1600];
     static unsigned turn;
     char *text = turns[turn++ % 4];
+    const struct caller *caller = origin->callers;
     size_t used = 0;
 
     snprintf(text, sizeof turns[0], "%s", place_text(origin->image, origin->address));
-    for (size_t i = 0; i < TRAIL && origin->trail[i].image != NULL; i++) {
-        const char *place = place_text(origin->trail[i].image, origin->trail[i].address);
+    for (unsigned i = 0; i < TRAIL && caller != NULL; i++, caller = caller->outer) {
+        const char *place = place_text(caller->image, caller->address);
 
         used += strlen(text + used);
         if (used + strlen(place) + 4 > sizeof turns[0])
