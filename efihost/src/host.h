@@ -274,7 +274,7 @@ uint64_t red_changes(void);
 void give_block(const void *block, const struct image *from, bool to_caller);
 void touch(const void *bytes, size_t count, bool write);
 void fill_memory_services(EFI_BOOT_SERVICES *boot);
-struct origin last_map_change(void);
+struct origin last_map_change(EFI_TPL *level);
 void zone_make(struct block *block);
 void zone_look(struct block *block, const char *when);
 void zone_free(const struct block *block, bool held_back);

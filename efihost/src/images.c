@@ -256,10 +256,14 @@ EFI_STATUS EFIAPI UnloadImage(EFI_HANDLE handle)
     ANSWER(unload_image(image));
 }
 
+/* Where a notification changed the map, an old key is not the caller's fault. */
 static void found_stale_key(uint64_t key)
 {
-    struct origin origin = origin_now(), change = last_map_change();
+    EFI_TPL level;
+    struct origin origin = origin_now(), change = last_map_change(&level);
 
+    if (level > host.tpl)
+        return;
     found(STALE_KEY, &origin,
           "ExitBootServices with the key %lu, which is not that of the map; the last that may have "
           "changed it: %s",

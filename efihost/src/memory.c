@@ -7,9 +7,18 @@
 #define GRANULE 16U /* pages */
 
 static struct origin map_change;
+static EFI_TPL map_change_level;
 
-struct origin last_map_change(void)
+static struct origin change_map(struct origin origin)
 {
+    map_change_level = host.tpl;
+    return map_change = origin;
+}
+
+/* What may have changed the map last, and its task priority level. */
+struct origin last_map_change(EFI_TPL *level)
+{
+    *level = map_change_level;
     return map_change;
 }
 
@@ -22,7 +31,7 @@ static void keep_run(uint64_t at, uint64_t pages, uint32_t type, bool red)
         return;
     if (in_granules(type))
         run.pages = (pages + GRANULE - 1) / GRANULE * GRANULE;
-    run.origin = map_change = origin_now();
+    run.origin = change_map(origin_now());
     ledger_add_run(&run);
     open_memory(run.at, run.pages * PAGE);
 }
@@ -180,7 +189,7 @@ EFI_STATUS host_free_pages(uint64_t at, uint64_t pages)
     status = core_free_pages(start, (end - start) / PAGE);
     if (status != EFI_SUCCESS)
         return status;
-    map_change = origin_without_callers();
+    change_map(origin_without_callers());
     ledger_cut_runs(start, (end - start) / PAGE);
     shut_memory(start, end - start);
     ledger_add_freed(at, pages, made);
@@ -195,7 +204,7 @@ static void keep_block(struct block *made, void **block)
     made->executable = made->type == RAFKUDIN_LOADER_CODE ||
                        made->type == RAFKUDIN_BOOT_SERVICES_CODE ||
                        made->type == RAFKUDIN_RUNTIME_SERVICES_CODE;
-    made->origin = map_change = origin_now();
+    made->origin = change_map(origin_now());
     zone_make(made);
     ledger_add_block(made);
     *block = POINTER(made->at);
@@ -230,7 +239,7 @@ EFI_STATUS host_free_pool(void *address)
     status = core_free_pool(block->core_at);
     if (status != EFI_SUCCESS)
         return status;
-    block->freed = map_change = origin_without_callers();
+    block->freed = change_map(origin_without_callers());
     if (block->room == 0)
         ledger_drop_block(block);
     else
