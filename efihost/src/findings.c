@@ -152,11 +152,12 @@ struct leaks {
     size_t group_count, room;
 };
 
+/* Memory that an image's function took for another's code may be for that to free. */
 static void add_leak(struct leaks *leaks, const struct origin *origin, uint64_t bytes)
 {
     size_t i = 0;
 
-    if (origin->image != leaks->image)
+    if (origin->image != leaks->image || for_other(origin))
         return;
     while (i < leaks->group_count && !same_origin(&leaks->groups[i].origin, origin))
         i++;
@@ -170,23 +171,29 @@ static void add_leak(struct leaks *leaks, const struct origin *origin, uint64_t 
     leaks->groups[i].bytes += bytes;
 }
 
-/* Memory that is to stay: a configuration table's, or of a type that the operating system keeps. */
-static bool is_to_stay(uint32_t type, uint64_t at, uint64_t size)
+/* Memory that is to stay: a configuration table's, the options of an image that stays, or of a type
+ * that the operating system keeps. */
+static bool is_to_stay(const struct image *image, uint32_t type, uint64_t at, uint64_t size)
 {
     return type == RAFKUDIN_RESERVED || type == RAFKUDIN_RUNTIME_SERVICES_CODE ||
            type == RAFKUDIN_RUNTIME_SERVICES_DATA || type == RAFKUDIN_ACPI_RECLAIM ||
-           type == RAFKUDIN_ACPI_MEMORY_NVS || has_table(at, size);
+           type == RAFKUDIN_ACPI_MEMORY_NVS || has_table(at, size) ||
+           has_load_options(image, at, size);
 }
 
 static void add_block(struct block *block, void *context)
 {
-    if (!is_to_stay(block->type, block->at, block->size))
+    struct leaks *leaks = context;
+
+    if (!is_to_stay(leaks->image, block->type, block->at, block->size))
         add_leak(context, &block->origin, block->size);
 }
 
 static void add_run(struct run *run, void *context)
 {
-    if (!is_to_stay(run->type, run->at, run->pages * PAGE))
+    struct leaks *leaks = context;
+
+    if (!is_to_stay(leaks->image, run->type, run->at, run->pages * PAGE))
         add_leak(context, &run->origin, run->pages * PAGE);
 }
 

@@ -28,6 +28,7 @@ struct image;
 struct caller {
     struct image *image;
     uint64_t address;
+    bool by_service; /* it called a service, which called what is inside */
     const struct caller *outer;
     struct caller *next;
 };
@@ -197,6 +198,7 @@ struct origin origin_at(uint64_t caller);
 struct origin origin_now(void);
 struct origin origin_without_callers(void);
 bool same_origin(const struct origin *one, const struct origin *other);
+bool for_other(const struct origin *origin);
 void forget_stacks(void);
 
 /* ---- machine.c ---- */
@@ -374,6 +376,7 @@ EFI_STATUS load_image(EFI_HANDLE parent, const void *path, const uint8_t *data, 
                       const char *file, struct image **image);
 EFI_STATUS start_image(struct image *image);
 EFI_STATUS unload_image(struct image *image);
+bool has_load_options(const struct image *except, uint64_t at, uint64_t size);
 EFI_STATUS EFIAPI LoadImage(BOOLEAN policy, EFI_HANDLE parent, EFI_DEVICE_PATH_PROTOCOL *path,
                             void *data, UINTN size, EFI_HANDLE *handle);
 EFI_STATUS EFIAPI StartImage(EFI_HANDLE handle, UINTN *size, CHAR16 **data);

@@ -127,6 +127,15 @@ EFI_STATUS load_image(EFI_HANDLE parent, const void *path, const uint8_t *data, 
     return status;
 }
 
+/* Whether memory has the options of an image that is loaded, but this one. */
+bool has_load_options(const struct image *except, uint64_t at, uint64_t size)
+{
+    for (struct image *image = images; image != NULL; image = image->next)
+        if (image != except && !image->gone && NUMBER(image->loaded->LoadOptions) - at < size)
+            return true;
+    return false;
+}
+
 /* Takes an image out of the machine, with what the host made for it. A driver that is stopped for
  * that may ask for the same again. */
 EFI_STATUS unload_image(struct image *image)

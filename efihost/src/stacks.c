@@ -29,6 +29,7 @@
 struct frame {
     uint64_t at, stack;      /* the instruction, and the stack pointer there */
     const struct call *call; /* the service that is under way */
+    bool by_service;         /* what is called there is a service, which called what is inside */
 };
 
 /* Bytes of the stack: those between the stack pointer at an instruction and the return address of its
@@ -284,6 +285,7 @@ NOT_SANITIZED static bool return_at(struct frame *frame, uint64_t at)
         return false;
     frame->at = word;
     frame->stack = at + 8;
+    frame->by_service = false;
     return true;
 }
 
@@ -301,6 +303,7 @@ NOT_SANITIZED static bool outer_service(struct frame *frame, uint64_t at, bool *
     if (*found) {
         frame->at = frame->call->caller;
         frame->stack = frame->call->frame + 16;
+        frame->by_service = true;
     }
     return true;
 }
@@ -365,9 +368,10 @@ static const struct caller *caller_at(const struct frame *frame, const struct ca
 {
     struct image *image = image_at(frame->at);
     struct caller **list = &caller_lists[list_of(frame->at ^ NUMBER(outer) << 20)], *it = *list;
-    const struct caller made = {image, frame->at - image->base, outer, *list};
+    const struct caller made = {image, frame->at - image->base, frame->by_service, outer, *list};
 
-    while (it != NULL && (it->image != image || it->address != made.address || it->outer != outer))
+    while (it != NULL && (it->image != image || it->address != made.address ||
+                          it->by_service != made.by_service || it->outer != outer))
         it = it->next;
     if (it == NULL)
         *list = it = memcpy(must(malloc(sizeof made)), &made, sizeof made);
@@ -428,4 +432,14 @@ bool same_origin(const struct origin *one, const struct origin *other)
 {
     return one->image == other->image && one->address == other->address &&
            one->callers == other->callers;
+}
+
+/* Whether an image did something for another one, whose code called it, and not only a service. */
+bool for_other(const struct origin *origin)
+{
+    const struct caller *caller = origin->callers;
+
+    while (caller != NULL && caller->image == origin->image)
+        caller = caller->outer;
+    return caller != NULL && !caller->by_service;
 }
