@@ -11,6 +11,8 @@ uint64_t core_pages(uint32_t kind, uint32_t type, uint64_t pages, uint64_t *memo
     TRACE(.service = RAFKUDIN_CALL_ALLOCATE_PAGES, .type = kind, .memory_type = type,
           .pages = pages, .address = asked);
     check_certificate();
+    if (status == RAFKUDIN_SUCCESS)
+        note_type(*memory, pages * PAGE, type);
     return status;
 }
 
@@ -19,18 +21,24 @@ uint64_t core_free_pages(uint64_t memory, uint64_t pages)
     uint64_t status = RafkudinFreePages(host.core, memory, pages);
 
     TRACE(.service = RAFKUDIN_CALL_FREE_PAGES, .address = memory, .pages = pages);
+    if (status == RAFKUDIN_SUCCESS)
+        note_type(memory, pages * PAGE, RAFKUDIN_CONVENTIONAL);
     return status;
 }
 
-/* `key` and the others may be null; `size` may not. */
+/* `key` and the others may be null; `size` may not. What is wrong with the caller's buffer is seen
+ * before the core is asked. */
 uint64_t core_map(uint64_t *size, void *map, uint64_t *key, uint64_t *step, uint32_t *version)
 {
+    const uint64_t needed = RafkudinDescriptors(host.core) * RAFKUDIN_DESCRIPTOR_SIZE;
     struct rafkudin_call call = {.service = RAFKUDIN_CALL_GET_MEMORY_MAP};
     struct rafkudin_map_reply reply = {.map = map};
     uint64_t status;
 
     if (map == NULL && *size != 0)
         return EFI_INVALID_PARAMETER;
+    if (*size >= needed)
+        touch(map, needed, true);
     call.size = *size > MAX_MAP_BUFFER ? MAX_MAP_BUFFER : *size;
     status = RafkudinGetMemoryMap(host.core, size, map, &reply.key, &reply.descriptor_size,
                                   &reply.descriptor_version);
@@ -58,8 +66,10 @@ uint64_t core_pool(uint32_t type, uint64_t size, uint64_t *address)
     host.in_pool = true;
     status = RafkudinAllocatePool(host.core, type, size, &made);
     host.in_pool = false;
-    if (status == RAFKUDIN_SUCCESS)
+    if (status == RAFKUDIN_SUCCESS) {
+        note_type(made, size, type);
         *address = made;
+    }
     TRACE(.service = RAFKUDIN_CALL_ALLOCATE_POOL, .memory_type = type, .size = size);
     check_certificate();
     return status;

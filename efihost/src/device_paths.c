@@ -56,17 +56,29 @@ static void copy_path(uint8_t *to, const void *path, size_t length)
             to[at] = 0x7f;
 }
 
+static bool make_room(size_t size)
+{
+    EFI_STATUS status = core_pool(RAFKUDIN_BOOT_SERVICES_DATA, size, &room_at);
+
+    if (status == EFI_OUT_OF_RESOURCES && give_red_pages())
+        status = core_pool(RAFKUDIN_BOOT_SERVICES_DATA, size, &room_at);
+    room_left = status == EFI_SUCCESS ? size : 0;
+    return status == EFI_SUCCESS;
+}
+
 static struct shadow *free_shadow(size_t length)
 {
+    struct shadow *more;
+
     for (size_t i = 0; i < shadow_count; i++)
         if (!shadows[i].live && shadows[i].length == length)
             return &shadows[i];
-    if (room_left < length) {
-        if (core_pool(RAFKUDIN_BOOT_SERVICES_DATA, ROOM, &room_at) != EFI_SUCCESS)
-            return NULL;
-        room_left = ROOM;
-    }
-    shadows = must(realloc(shadows, (shadow_count + 1) * sizeof *shadows));
+    if (room_left < length && !make_room(ROOM) && !make_room(length))
+        return NULL;
+    more = realloc(shadows, (shadow_count + 1) * sizeof *shadows);
+    if (more == NULL)
+        return NULL;
+    shadows = more;
     shadows[shadow_count].at = room_at;
     shadows[shadow_count].length = length;
     room_at += (length + 7) & ~7ULL;
@@ -74,24 +86,28 @@ static struct shadow *free_shadow(size_t length)
     return &shadows[shadow_count++];
 }
 
-/* The core's value of an interface that is about to be installed. */
-uint64_t path_to_core(const void *guid, uint64_t value)
+/* Makes the value of an interface that is about to be installed the core's. False where there is no
+ * memory for that. */
+bool path_to_core(const void *guid, uint64_t *value)
 {
     uint8_t copy[MAX_PATH_SIZE];
     struct shadow *shadow;
     size_t length;
 
-    if (!guid_equal(guid, &device_path_guid) || value == 0)
-        return value;
-    length = path_length(POINTER(value));
-    shadow = length == 0 ? NULL : free_shadow(length);
+    if (!guid_equal(guid, &device_path_guid) || *value == 0)
+        return true;
+    length = path_length(POINTER(*value));
+    if (length == 0)
+        return true;
+    shadow = free_shadow(length);
     if (shadow == NULL)
-        return value;
-    copy_path(copy, POINTER(value), length);
-    shadow->real = value;
+        return false;
+    copy_path(copy, POINTER(*value), length);
+    shadow->real = *value;
     shadow->live = true;
     core_write(shadow->at, copy, length);
-    return shadow->at;
+    *value = shadow->at;
+    return true;
 }
 
 uint64_t path_from_core(const void *guid, uint64_t value)
@@ -117,6 +133,7 @@ uint64_t path_installed(uint64_t handle, const void *guid, uint64_t value)
     return value;
 }
 
+/* An interface with this value of the core's is gone, or was not installed. */
 void path_drop(uint64_t value)
 {
     for (size_t i = 0; i < shadow_count; i++)

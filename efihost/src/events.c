@@ -193,7 +193,9 @@ static EFI_STATUS make_event(uint32_t type, EFI_TPL tpl, EFI_EVENT_NOTIFY notify
     if ((type & (EVT_NOTIFY_SIGNAL | EVT_NOTIFY_WAIT)) != 0 &&
         (notify == NULL || tpl <= TPL_APPLICATION || tpl >= TPL_HIGH_LEVEL))
         return EFI_INVALID_PARAMETER;
-    event = must(calloc(1, sizeof *event));
+    event = calloc(1, sizeof *event);
+    if (event == NULL)
+        return EFI_OUT_OF_RESOURCES;
     event->type = type;
     event->tpl = tpl;
     event->notify = notify;
@@ -211,9 +213,10 @@ static EFI_STATUS make_event(uint32_t type, EFI_TPL tpl, EFI_EVENT_NOTIFY notify
 
 EFI_EVENT make_key_event(void)
 {
-    struct event *event;
+    struct event *event = NULL;
 
     make_event(0, TPL_NOTIFY, NULL, NULL, NULL, &event);
+    event = must(event);
     event->key = true;
     return handle_of(event);
 }

@@ -3,18 +3,17 @@
  * for data it is a finding if all images that have to do with it say, by NX_COMPAT, that they have
  * no such code. Else it runs, as on firmware that allows it, and a line says so once for an image.
  *
- * All this is done in the handler of a fault. It interrupts an image, so no call of the core is
- * under way, and the core may be asked. */
+ * All this is done in the handler of a fault, which must not ask the core: types are those that were
+ * noted as the core placed memory. */
 #include "host.h"
 
 #include <sys/mman.h>
 
-#define SYSTEM_TYPES 0x70000000U /* what these are for, only those who use them know */
-
+/* What types are for that a system has for itself, only those who use them know. */
 static bool is_for_code(uint32_t type)
 {
     return type == RAFKUDIN_LOADER_CODE || type == RAFKUDIN_BOOT_SERVICES_CODE ||
-           type == RAFKUDIN_RUNTIME_SERVICES_CODE || type >= SYSTEM_TYPES;
+           type == RAFKUDIN_RUNTIME_SERVICES_CODE || type > RAFKUDIN_UNACCEPTED;
 }
 
 static const char *type_name(uint32_t type)

@@ -4,7 +4,7 @@
  * A handler that interrupts an image, or the host's own code, interrupts no function of the C
  * library, so it may call all of them: it decides whether the run goes on. A run that ends does so
  * outside of the handler, on a stack of its own. If the C library is interrupted, or the run ends
- * already, a handler only writes a line and ends the process. */
+ * already, a handler only writes a line and ends the process. No handler asks the core. */
 #include "host.h"
 
 #include <signal.h>
@@ -299,6 +299,7 @@ static void on_fault(int number, siginfo_t *info, void *context)
     }
     if (heeded == ENDS || (heeded == IS_FOUND && host.options.guard)) {
         fault = it;
+        host.in_core = host.in_pool;
         leave_for(context, heeded == ENDS ? end_by_fault : end_at_access);
     }
     inside = 0;
@@ -373,6 +374,7 @@ static void on_end(int number, siginfo_t *info, void *context)
         ends_by = number;
     if (in_image(instruction) || (tries > TRIES && in_host(instruction))) {
         ends_at = instruction;
+        host.in_core = !in_image(instruction);
         leave_for(context, end_by_signal);
         return;
     }
@@ -388,9 +390,10 @@ static void on_picture(int number, siginfo_t *info, void *context)
     (void)number;
     (void)info;
     drop_check_of_alignment();
-    wants_pictures = host.signalled = true;
     if (in_image((uint64_t)((ucontext_t *)context)->uc_mcontext.gregs[REG_RIP]))
-        heed_signals();
+        save_pictures();
+    else
+        wants_pictures = host.signalled = true;
 }
 
 /* The stacks of handlers and of ends, each above a page that is shut. */

@@ -63,7 +63,11 @@ int folder_descriptor(const struct folder *folder, const char *path, int flags)
     how.flags = (uint64_t)(flags | O_NOFOLLOW | O_CLOEXEC);
     how.mode = (flags & O_CREAT) != 0 ? 0666 : 0;
     how.resolve = RESOLVE_BENEATH | RESOLVE_NO_SYMLINKS | RESOLVE_NO_MAGICLINKS;
+#ifdef IN_VALGRIND /* which has no openat2 */
+    return openat(folder->root, *path == 0 ? "." : path, (int)how.flags, (mode_t)how.mode);
+#else
     return (int)syscall(SYS_openat2, folder->root, *path == 0 ? "." : path, &how, sizeof how);
+#endif
 }
 
 /* Opens the folder that holds a path's last part, which is *name. */

@@ -73,17 +73,17 @@ static struct open_file *closed_longest(void)
  * is closed for the longest. NULL: there is none. */
 static struct open_file *new_file(const EFI_FILE_PROTOCOL *functions)
 {
+    struct open_file *it = closed_count < HELD_BACK ? calloc(1, sizeof *it) : NULL;
     EFI_FILE_PROTOCOL *shown = NULL;
-    struct open_file *it;
 
-    if (closed_count < HELD_BACK)
+    if (it != NULL)
         shown = make_structure("a file's functions", functions, sizeof *functions);
     if (shown == NULL) {
+        free(it);
         it = closed_longest();
         closed_count -= it != NULL;
         return it;
     }
-    it = must(calloc(1, sizeof *it));
     it->shown = shown;
     it->next = *row_of(shown);
     *row_of(shown) = it;
@@ -484,7 +484,8 @@ EFI_STATUS folder_open(const struct folder *folder, const char *path, int flags,
                        EFI_FILE_PROTOCOL **made)
 {
     mode_t mode = folder_mode(folder, path);
-    struct open_file *it;
+    struct open_file *it = NULL;
+    DIR *list = NULL;
     struct stat about;
     int file;
 
@@ -497,9 +498,12 @@ EFI_STATUS folder_open(const struct folder *folder, const char *path, int flags,
         close(file);
         return EFI_ACCESS_DENIED;
     }
-    it = new_file(&functions);
+    if (S_ISDIR(about.st_mode))
+        list = fdopendir(file);
+    if (list != NULL || !S_ISDIR(about.st_mode))
+        it = new_file(&functions);
     if (it == NULL) {
-        close(file);
+        list == NULL ? close(file) : closedir(list);
         return EFI_OUT_OF_RESOURCES;
     }
     set_structure(it->shown, &functions, sizeof functions);
@@ -508,7 +512,7 @@ EFI_STATUS folder_open(const struct folder *folder, const char *path, int flags,
     it->folder = folder;
     it->file = file;
     it->writes = (flags & O_RDWR) != 0;
-    it->list = S_ISDIR(about.st_mode) ? must(fdopendir(file)) : NULL;
+    it->list = list;
     strcpy(it->path, path);
     *made = it->shown;
     return EFI_SUCCESS;

@@ -72,6 +72,7 @@ struct host {
     bool exited, checks;
     bool over_memory; /* a block of the core's pool is at its address */
     bool in_pool;     /* the core's pool is being called */
+    bool in_core;     /* the run ends while a call of the core may be under way */
     volatile bool ending; /* the report is being written */
     uint64_t calls;
     volatile bool signalled; /* a signal waits for the host's own code */
@@ -207,7 +208,8 @@ struct machine_range {
     uint32_t type;
     bool mapped;
     int usual;        /* the rights with which its pages were mapped */
-    uint8_t *changed; /* for each page, in which of these rights it differs */
+    uint8_t *changed, *other_type; /* for each page, in which of these rights it differs, and how in
+                                    * its type */
 };
 void make_machine(const char *file);
 const struct machine_range *machine_range_at(uint64_t address);
@@ -216,6 +218,7 @@ uint32_t memory_type(uint64_t address);
 int memory_rights(uint64_t address);
 bool in_granules(uint32_t type);
 uint64_t add_pool_range(uint64_t size);
+void note_type(uint64_t address, uint64_t size, uint32_t type);
 void protect_memory(uint64_t address, uint64_t size, int rights);
 void open_memory(uint64_t address, uint64_t size);
 void shut_memory(uint64_t address, uint64_t size);
@@ -383,7 +386,11 @@ EFI_STATUS EFIAPI StartImage(EFI_HANDLE handle, UINTN *size, CHAR16 **data);
 EFI_STATUS EFIAPI Exit(EFI_HANDLE handle, EFI_STATUS status, UINTN size, CHAR16 *data);
 EFI_STATUS EFIAPI UnloadImage(EFI_HANDLE handle);
 EFI_STATUS EFIAPI ExitBootServices(EFI_HANDLE handle, UINTN key);
-uint8_t *read_by_path(const void *path, bool policy, uint64_t *length);
+struct source {
+    uint8_t *bytes; /* a block of the machine's, which the caller frees */
+    uint64_t length;
+};
+EFI_STATUS read_by_path(const void *path, bool policy, struct source *to);
 
 /* ---- events.c ---- */
 struct event;
@@ -401,13 +408,14 @@ void fill_event_services(EFI_BOOT_SERVICES *boot);
 
 /* ---- protocols.c, device_paths.c ---- */
 EFI_STATUS install_one(uint64_t *handle, const void *guid, uint32_t kind, uint64_t value);
+EFI_STATUS install_many(uint64_t *handle, const struct rafkudin_interface *list, size_t count);
 EFI_STATUS uninstall_one(uint64_t handle, const void *guid, uint64_t value);
 void *interface_of(uint64_t handle, const void *guid);
 void fill_protocol_services(EFI_BOOT_SERVICES *boot);
 void fill_open_services(EFI_BOOT_SERVICES *boot);
 void make_path_room(void);
 size_t path_length(const void *path);
-uint64_t path_to_core(const void *guid, uint64_t value);
+bool path_to_core(const void *guid, uint64_t *value);
 uint64_t path_from_core(const void *guid, uint64_t value);
 uint64_t path_installed(uint64_t handle, const void *guid, uint64_t value);
 void path_drop(uint64_t value);

@@ -36,11 +36,15 @@ struct image *image_of(EFI_HANDLE handle)
     return NULL;
 }
 
-static void *copy_path(const void *path)
+/* Copies a path, of which there may be none. False where the machine has no memory for it. */
+static bool copy_path(EFI_DEVICE_PATH_PROTOCOL **to, const void *path)
 {
     size_t length = path == NULL ? 0 : path_length(path);
 
-    return length == 0 ? NULL : memcpy(machine_block(length), path, length);
+    *to = length == 0 ? NULL : try_machine_block(length);
+    if (*to != NULL)
+        memcpy(*to, path, length);
+    return length == 0 || *to != NULL;
 }
 
 /* Names an image by its file, of the host or of a device path's file node, or else by its debug
@@ -56,65 +60,92 @@ static void name_image(struct image *image, const char *file, const EFI_DEVICE_P
     if (*name == 0)
         name = "image";
     snprintf(image->name, sizeof image->name, "%.60s", last_part(name));
-    read_symbols(image, file);
 }
 
-static void fill_loaded_image(struct image *image, EFI_HANDLE parent, EFI_HANDLE device,
-                              const void *rest)
+static void fill_loaded_image(const struct image *image, EFI_HANDLE parent, EFI_HANDLE device)
 {
     static const uint32_t code[] = {1, 3, 5}, data[] = {2, 4, 6};
-    EFI_LOADED_IMAGE_PROTOCOL *loaded = machine_block(sizeof *loaded);
+    EFI_LOADED_IMAGE_PROTOCOL *loaded = image->loaded;
 
     loaded->Revision = 0x1000;
     loaded->ParentHandle = parent;
     loaded->SystemTable = host.table;
     loaded->DeviceHandle = device;
-    loaded->FilePath = image->file_path = copy_path(rest);
+    loaded->FilePath = image->file_path;
     loaded->ImageBase = POINTER(image->base);
     loaded->ImageSize = image->size;
     loaded->ImageCodeType = code[image->subsystem - APPLICATION];
     loaded->ImageDataType = data[image->subsystem - APPLICATION];
-    image->loaded = loaded;
 }
 
 static EFI_STATUS install_image(struct image *image)
 {
+    const struct rafkudin_interface list[] = {
+        {core_guid(&loaded_image_guid), NUMBER(image->loaded)},
+        {core_guid(&loaded_image_path_guid), NUMBER(image->path)},
+        {core_guid(&package_list_guid), NUMBER(image->packages)},
+    };
     uint64_t handle = 0;
-    EFI_STATUS status =
-        install_one(&handle, &loaded_image_guid, 0, NUMBER(image->loaded));
+    EFI_STATUS status = install_many(&handle, list, image->packages == NULL ? 2 : 3);
 
-    if (status == EFI_SUCCESS)
-        status = install_one(&handle, &loaded_image_path_guid, 0, NUMBER(image->path));
-    if (status == EFI_SUCCESS && image->packages != NULL)
-        status = install_one(&handle, &package_list_guid, 0, NUMBER(image->packages));
     image->handle = HANDLE(handle);
     return status;
 }
 
-/* Loads an image from bytes; `file` is its name on the host, or NULL. */
+/* Makes what goes with an image that is in memory, and installs it. */
+static EFI_STATUS equip(struct image *image, EFI_HANDLE parent, const void *path)
+{
+    uint64_t device = 0, matched = 0;
+    const uint8_t *rest = path;
+
+    if (path != NULL && path_length(path) != 0)
+        locate_path(&device_path_guid, path, &device, &matched);
+    image->loaded = try_machine_block(sizeof *image->loaded);
+    if (image->loaded == NULL || !copy_path(&image->path, path) ||
+        !copy_path(&image->file_path, rest == NULL ? NULL : rest + matched))
+        return EFI_OUT_OF_RESOURCES;
+    fill_loaded_image(image, parent, HANDLE(device));
+    return install_image(image);
+}
+
+/* Gives back what the host made for an image. */
+static void strip(struct image *image)
+{
+    free_machine_block(image->file_path);
+    free_machine_block(image->loaded);
+    free_machine_block(image->path);
+    open_memory(image->base, image->size);
+    image->gone = true;
+    forget_stacks();
+    host_free_pages(image->placed, image->pages);
+}
+
+/* Loads an image from bytes; `file` is its name on the host, or NULL. On an error nothing is kept. */
 EFI_STATUS load_image(EFI_HANDLE parent, const void *path, const uint8_t *data, uint64_t length,
                       const char *file, struct image **loaded)
 {
-    struct image *image = must(calloc(1, sizeof *image));
+    struct image *image = calloc(1, sizeof *image);
     struct call *call = host.call;
-    uint64_t device = 0, matched = 0;
     EFI_STATUS status;
 
+    if (image == NULL)
+        return EFI_OUT_OF_RESOURCES;
     host.call = NULL;
     status = load_pe(data, length, image);
+    if (status == EFI_SUCCESS) {
+        status = equip(image, parent, path);
+        if (status != EFI_SUCCESS)
+            strip(image);
+    }
+    host.call = call;
     if (status != EFI_SUCCESS) {
-        host.call = call;
+        free(image->sections);
         free(image);
         return status;
     }
-    if (path != NULL && path_length(path) != 0)
-        locate_path(&device_path_guid, path, &device, &matched);
-    image->path = copy_path(path);
-    fill_loaded_image(image, parent, HANDLE(device),
-                      path == NULL ? NULL : (const uint8_t *)path + matched);
     name_image(image, file, image->file_path);
+    read_symbols(image, file);
     apply_rights(image);
-    status = install_image(image);
     image->next = images;
     images = image;
     if (host.images_end == 0 || image->base < host.images_start)
@@ -122,9 +153,8 @@ EFI_STATUS load_image(EFI_HANDLE parent, const void *path, const uint8_t *data, 
     if (image->base + image->size > host.images_end)
         host.images_end = image->base + image->size;
     forget_stacks();
-    host.call = call;
     *loaded = image;
-    return status;
+    return EFI_SUCCESS;
 }
 
 /* Whether memory has the options of an image that is loaded, but this one. */
@@ -151,15 +181,7 @@ EFI_STATUS unload_image(struct image *image)
         uninstall_one(NUMBER(image->handle), &package_list_guid, NUMBER(image->packages));
     uninstall_one(NUMBER(image->handle), &loaded_image_path_guid, NUMBER(image->path));
     uninstall_one(NUMBER(image->handle), &loaded_image_guid, NUMBER(image->loaded));
-    if (image->file_path != NULL)
-        host_free_pool(image->file_path);
-    host_free_pool(image->loaded);
-    if (image->path != NULL)
-        host_free_pool(image->path);
-    open_memory(image->base, image->size);
-    image->gone = true;
-    forget_stacks();
-    host_free_pages(image->placed, image->pages);
+    strip(image);
     host.call = call;
     return EFI_SUCCESS;
 }
@@ -191,21 +213,20 @@ EFI_STATUS EFIAPI LoadImage(BOOLEAN policy, EFI_HANDLE parent, EFI_DEVICE_PATH_P
                             void *data, UINTN size, EFI_HANDLE *handle)
 {
     SERVICE("LoadImage", policy, NUMBER(parent), NUMBER(path), NUMBER(data));
-    const uint8_t *bytes = data;
-    uint64_t length = size;
+    struct source source = {data, size};
     struct image *image = NULL;
-    EFI_STATUS status;
+    EFI_STATUS status = EFI_SUCCESS;
 
     if (handle == NULL || image_of(parent) == NULL || (data == NULL && path == NULL))
         ANSWER(EFI_INVALID_PARAMETER);
     touch(data, data == NULL ? 0 : size, false);
     if (data == NULL)
-        bytes = read_by_path(path, policy != 0, &length);
-    if (bytes == NULL)
-        ANSWER(EFI_NOT_FOUND);
-    status = load_image(parent, path, bytes, length, NULL, &image);
+        status = read_by_path(path, policy != 0, &source);
+    if (status != EFI_SUCCESS)
+        ANSWER(status);
+    status = load_image(parent, path, source.bytes, source.length, NULL, &image);
     if (data == NULL)
-        free_machine_block((void *)(uintptr_t)bytes);
+        free_machine_block(source.bytes);
     if (status == EFI_SUCCESS)
         *handle = image->handle;
     ANSWER(status);

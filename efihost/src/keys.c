@@ -256,7 +256,7 @@ bool keys_are_over(void)
 /* The next key; false where there is none yet. */
 bool next_key(EFI_INPUT_KEY *key)
 {
-    memset(key, 0, sizeof *key);
+    *key = (EFI_INPUT_KEY){0, 0};
     if (!key_is_ready())
         return false;
     if (has_come) {

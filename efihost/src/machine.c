@@ -13,6 +13,7 @@
 #define MAX_PAGES 0x800000 /* of memory that the core is handed, of which it keeps a byte each */
 #define DATA (PROT_READ | PROT_WRITE)
 #define ALL (DATA | PROT_EXEC)
+#define OF_SYSTEMS (RAFKUDIN_UNACCEPTED + 1) /* all types that are for systems */
 
 static struct machine_range *ranges;
 static size_t range_count;
@@ -38,13 +39,13 @@ static void keep(struct machine_range range)
  * process has something already, is reserved on the machine that is run, and a line says so. */
 static void add(uint32_t type, uint64_t start, uint64_t pages, uint64_t attributes)
 {
-    struct machine_range range = {start, pages, attributes, type, false, DATA, NULL};
+    struct machine_range range = {start, pages, attributes, type, false, DATA, NULL, NULL};
 
     if (has_bytes(&range) && start < LOWEST) {
         uint64_t below = (LOWEST - start) / PAGE;
         struct machine_range low = {start, below < pages ? below : pages, attributes,
                                     type == RAFKUDIN_CONVENTIONAL ? RAFKUDIN_RESERVED : type,
-                                    false, DATA, NULL};
+                                    false, DATA, NULL, NULL};
 
         keep(low);
         if (below >= pages)
@@ -167,6 +168,13 @@ static void make_core(void)
     free(records);
 }
 
+/* What is kept of each page of a range: in what it differs from the range. */
+static void keep_pages(struct machine_range *range)
+{
+    range->changed = must(calloc(range->pages, 1));
+    range->other_type = must(calloc(range->pages, 1));
+}
+
 void make_machine(const char *file)
 {
     if (file != NULL) {
@@ -179,7 +187,7 @@ void make_machine(const char *file)
     make_core();
     for (size_t i = 0; i < range_count; i++)
         if (ranges[i].mapped)
-            ranges[i].changed = must(calloc(ranges[i].pages, 1));
+            keep_pages(&ranges[i]);
 }
 
 /* Whether memory of a type is placed in whole granules of 16 pages. */
@@ -218,7 +226,8 @@ uint64_t add_pool_range(uint64_t size)
     int flags = MAP_PRIVATE | MAP_ANONYMOUS | MAP_NORESERVE;
     int rights = all_open ? ALL : PROT_NONE;
     uint64_t at = find_gap(size), pages = (size + PAGE - 1) / PAGE;
-    struct machine_range range = {at, pages, 0, RAFKUDIN_BOOT_SERVICES_DATA, true, rights, NULL};
+    struct machine_range range = {
+        at, pages, 0, RAFKUDIN_BOOT_SERVICES_DATA, true, rights, NULL, NULL};
 
     if (at == 0 || mmap(POINTER(at), size, rights, flags | MAP_FIXED_NOREPLACE, -1, 0) !=
                        POINTER(at)) {
@@ -226,7 +235,7 @@ uint64_t add_pool_range(uint64_t size)
         if (POINTER(range.start) == MAP_FAILED)
             return 0;
     }
-    range.changed = must(calloc(pages, 1));
+    keep_pages(&range);
     keep(range);
     qsort(ranges, range_count, sizeof *ranges, by_start);
     return range.start;
@@ -282,11 +291,19 @@ bool conventional_range(uint64_t address, uint64_t *start, uint64_t *size)
     return entry.type == RAFKUDIN_CONVENTIONAL;
 }
 
+static uint8_t short_type(uint32_t type)
+{
+    return (uint8_t)(type < OF_SYSTEMS ? type : OF_SYSTEMS);
+}
+
+/* The type of memory as it was noted; of those for systems it is only known that it is one. */
 uint32_t memory_type(uint64_t address)
 {
-    struct rafkudin_descriptor entry;
+    const struct machine_range *range = machine_range_at(address);
 
-    return entry_at(address, &entry) ? entry.type : RAFKUDIN_RESERVED;
+    if (range == NULL || range->other_type == NULL)
+        return RAFKUDIN_RESERVED;
+    return short_type(range->type) ^ range->other_type[(address - range->start) / PAGE];
 }
 
 /* What a page of the machine may be used for. */
@@ -323,33 +340,57 @@ static bool are_all(const uint8_t *bytes, size_t count, uint8_t byte)
 
 /* Sets what pages of a range may be used for; the system is not asked where it is so already. */
 static void protect_pages(const struct machine_range *range, uint64_t first, uint64_t end,
-                          int rights)
+                          uint32_t rights)
 {
     uint8_t *changed = range->changed + (first - range->start) / PAGE;
-    uint8_t change = (uint8_t)(range->usual ^ rights);
+    uint8_t change = (uint8_t)(range->usual ^ (int)rights);
     size_t count = (end - first) / PAGE;
 
-    if (are_all(changed, count, change))
+    if (all_open || are_all(changed, count, change))
         return;
     memset(changed, change, count);
-    if (mprotect(POINTER(first), end - first, rights) != 0)
+    if (mprotect(POINTER(first), end - first, (int)rights) != 0)
         open_for_good();
 }
 
-/* Sets what every page with one of these bytes may be used for. */
-void protect_memory(uint64_t address, uint64_t size, int rights)
+/* Does something with every page that has one of these bytes, for the pages of each range at once. */
+static void each_piece(uint64_t address, uint64_t size, uint32_t what,
+                       void (*does)(const struct machine_range *range, uint64_t first,
+                                    uint64_t end, uint32_t what))
 {
     uint64_t first = address & ~(PAGE - 1), end = (address + size + PAGE - 1) & ~(PAGE - 1);
 
-    while (first < end && !all_open) {
+    while (first < end) {
         const struct machine_range *range = machine_range_at(first);
         uint64_t range_end = range == NULL ? end : range->start + range->pages * PAGE;
         uint64_t piece_end = range_end < end ? range_end : end;
 
         if (range != NULL && range->changed != NULL)
-            protect_pages(range, first, piece_end, rights);
+            does(range, first, piece_end, what);
         first = piece_end;
     }
+}
+
+/* Sets what every page with one of these bytes may be used for. */
+void protect_memory(uint64_t address, uint64_t size, int rights)
+{
+    each_piece(address, size, (uint32_t)rights, protect_pages);
+}
+
+static void note_pages(const struct machine_range *range, uint64_t first, uint64_t end,
+                       uint32_t type)
+{
+    memset(range->other_type + (first - range->start) / PAGE,
+           short_type(range->type) ^ short_type(type), (end - first) / PAGE);
+}
+
+/* Notes the type of memory that the core has placed or freed. A handler of signals goes by that,
+ * since it must not ask the core. */
+void note_type(uint64_t address, uint64_t size, uint32_t type)
+{
+    uint64_t unit = in_granules(type) ? granule * PAGE : PAGE, first = address / unit * unit;
+
+    each_piece(first, (address + size - first + unit - 1) / unit * unit, type, note_pages);
 }
 
 /* Makes memory what data may lie in. */

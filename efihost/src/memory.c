@@ -36,16 +36,6 @@ static void keep_run(uint64_t at, uint64_t pages, uint32_t type, bool red)
     open_memory(run.at, run.pages * PAGE);
 }
 
-/* Pages with nothing around them. */
-EFI_STATUS host_plain_pages(uint32_t kind, uint32_t type, uint64_t pages, uint64_t *at)
-{
-    EFI_STATUS status = core_pages(kind, type, pages, at);
-
-    if (status == EFI_SUCCESS)
-        keep_run(*at, pages, type, false);
-    return status;
-}
-
 /* ---- Red pages: one on each side of a run, placed with it and shut ---- */
 
 static uint64_t given_back;
@@ -126,18 +116,24 @@ static bool red_pages(uint32_t kind, uint32_t type, uint64_t pages, uint64_t *at
     return true;
 }
 
-EFI_STATUS host_pages(uint32_t kind, uint32_t type, uint64_t pages, uint64_t *at)
+/* Pages with nothing around them. */
+EFI_STATUS host_plain_pages(uint32_t kind, uint32_t type, uint64_t pages, uint64_t *at)
 {
-    EFI_STATUS status;
+    EFI_STATUS status = core_pages(kind, type, pages, at);
 
-    if (red_pages(kind, type, pages, at))
-        return EFI_SUCCESS;
-    status = host_plain_pages(kind, type, pages, at);
     if (host.checks &&
         ((status == EFI_OUT_OF_RESOURCES && give_red_pages()) ||
          (status == EFI_NOT_FOUND && kind == RAFKUDIN_AT_ADDRESS && give_red_among(*at, pages))))
-        status = host_plain_pages(kind, type, pages, at);
+        status = core_pages(kind, type, pages, at);
+    if (status == EFI_SUCCESS)
+        keep_run(*at, pages, type, false);
     return status;
+}
+
+EFI_STATUS host_pages(uint32_t kind, uint32_t type, uint64_t pages, uint64_t *at)
+{
+    return red_pages(kind, type, pages, at) ? EFI_SUCCESS
+                                            : host_plain_pages(kind, type, pages, at);
 }
 
 /* The place that the core has for an address in a pool block. */
@@ -254,6 +250,7 @@ EFI_STATUS host_adopt_block(uint64_t core_at, uint64_t size, void **block)
     struct block made = {.size = size, .type = RAFKUDIN_BOOT_SERVICES_DATA, .core_at = core_at};
 
     *block = POINTER(core_at);
+    note_type(core_at, size, made.type);
     if (host.checks)
         keep_block(&made, block);
     if (!host.over_memory)
@@ -313,8 +310,9 @@ void free_machine_block(void *block)
 
 /* Reads, and writes with what it has, a byte of each page of a buffer before the system or the C
  * library is handed it. An access to what is not the caller's is seen so, which the system only
- * refuses; and no function of the C library is under way then, so that the run can end in order. */
-void touch(const void *bytes, size_t count, bool write)
+ * refuses; and no function of the C library is under way then, so that the run can end in order. A
+ * sanitizer would look elsewhere first. */
+__attribute__((no_sanitize_address)) void touch(const void *bytes, size_t count, bool write)
 {
     volatile uint8_t *at = POINTER(NUMBER(bytes));
 

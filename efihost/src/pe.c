@@ -24,7 +24,7 @@ struct headers {
 
 static char fault[96];
 
-/* Why the last image was not loaded. */
+/* Why the last image was not loaded; where it was put into memory, the only cause that is left. */
 const char *image_fault(void)
 {
     return fault;
@@ -136,6 +136,9 @@ static EFI_STATUS place(const struct headers *from, struct image *image)
     uint64_t at = from->image_base;
     EFI_STATUS status;
 
+    image->sections = calloc(from->section_count + 1U, sizeof *image->sections);
+    if (image->sections == NULL)
+        return EFI_OUT_OF_RESOURCES;
     image->size = from->size;
     image->pages = (from->size + PAGE - 1) / PAGE;
     if ((from->flags & STRIPPED) != 0) {
@@ -160,7 +163,6 @@ static bool copy_sections(const struct headers *from, struct image *image)
 {
     uint8_t *to = POINTER(image->base);
 
-    image->sections = must(calloc(from->section_count + 1U, sizeof *image->sections));
     memcpy(to, from->file, from->header_size);
     for (unsigned i = 0; i < from->section_count; i++) {
         const uint8_t *header = from->sections + 40 * i;
@@ -312,8 +314,10 @@ struct cover {
 
 static struct cover *cover_pages(const struct image *image, size_t pages)
 {
-    struct cover *cover = must(calloc(pages + 1, sizeof *cover));
+    struct cover *cover = calloc(pages + 1, sizeof *cover);
 
+    if (cover == NULL)
+        return NULL;
     for (size_t i = 0; i < image->section_count; i++) {
         const struct section *section = &image->sections[i];
         size_t first = section->at / PAGE, end = (section->at + section->size + PAGE - 1) / PAGE;
@@ -351,20 +355,16 @@ static bool is_mixed(const struct cover *page)
 }
 
 /* Each page may be used for what the flags of the sections on it say, one for all of them. An image
- * without sections may use all of its memory in every way. */
+ * without sections, or with more than there is memory to look at, may use all of its memory in every
+ * way. */
 void apply_rights(struct image *image)
 {
     size_t pages = (image->size + PAGE - 1) / PAGE, mixed = 0;
-    struct cover *cover;
+    struct cover *cover = image->section_count == 0 ? NULL : cover_pages(image, pages);
 
-    if (image->section_count == 0) {
+    if (cover == NULL)
         protect_memory(image->base, image->size, PROT_READ | PROT_WRITE | PROT_EXEC);
-        free(image->sections);
-        image->sections = NULL;
-        return;
-    }
-    cover = cover_pages(image, pages);
-    for (size_t first = 0, end; first < pages; first = end) {
+    for (size_t first = 0, end; cover != NULL && first < pages; first = end) {
         int rights = rights_of(&cover[first]);
 
         for (end = first; end < pages && rights_of(&cover[end]) == rights; end++)
@@ -382,7 +382,7 @@ void apply_rights(struct image *image)
     image->section_count = 0;
 }
 
-/* Puts an image into the machine's memory; on an error nothing is kept. */
+/* Puts an image into the machine's memory; on an error it keeps nothing there. */
 EFI_STATUS load_pe(const uint8_t *file, uint64_t length, struct image *image)
 {
     struct headers headers;
@@ -402,13 +402,13 @@ EFI_STATUS load_pe(const uint8_t *file, uint64_t length, struct image *image)
         return status;
     memset(POINTER(image->placed), 0, image->pages * PAGE);
     if (!copy_sections(&headers, image) || !relocate(&headers, image)) {
-        free(image->sections);
         host_free_pages(image->placed, image->pages);
         return EFI_LOAD_ERROR;
     }
     image->entry = image->base + get32(headers.optional + 16);
     image->packages = find_packages(&headers, image);
     find_debug_file(&headers, image);
+    say("the machine has no memory for what goes with it");
     return EFI_SUCCESS;
 }
 
@@ -421,6 +421,7 @@ void peek_debug_file(const uint8_t *file, uint64_t length, struct image *image)
     if (!read_headers(file, length, &headers))
         return;
     bytes = must(calloc(1, headers.size));
+    image->sections = must(calloc(headers.section_count + 1U, sizeof *image->sections));
     image->size = headers.size;
     image->base = NUMBER(bytes);
     if (copy_sections(&headers, image))

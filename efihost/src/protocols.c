@@ -7,21 +7,50 @@
 
 #define MAX_INTERFACES 64U
 
+/* Notes an interface that is installed. */
+static void hold_interface(uint64_t handle, const struct rafkudin_guid *guid, uint64_t value)
+{
+    struct held held = {handle, 0, 0, value, {0}, 0, {0}};
+
+    memcpy(&held.guid, guid, sizeof held.guid);
+    hold(&held);
+}
+
 /* Values that are handed to the core and back: those of device paths are other ones there. A GUID
  * of an image's is copied, since a notification may free it. */
 EFI_STATUS install_one(uint64_t *handle, const void *guid, uint32_t kind, uint64_t value)
 {
-    struct held held = {0, 0, 0, value, {0}, 0, {0}};
-    uint64_t core_value = path_to_core(guid, value);
+    const struct rafkudin_guid copy = core_guid(guid);
+    uint64_t core_value = value;
     EFI_STATUS status;
 
-    memcpy(&held.guid, guid, sizeof held.guid);
-    status = core_install(handle, guid, kind, core_value);
-    held.handle = *handle;
+    if (!path_to_core(&copy, &core_value))
+        return EFI_OUT_OF_RESOURCES;
+    status = core_install(handle, &copy, kind, core_value);
     if (status == EFI_SUCCESS)
-        hold(&held);
+        hold_interface(*handle, &copy, value);
     else if (core_value != value)
         path_drop(core_value);
+    return status;
+}
+
+/* All of these, or none. */
+EFI_STATUS install_many(uint64_t *handle, const struct rafkudin_interface *list, size_t count)
+{
+    struct rafkudin_interface interfaces[MAX_INTERFACES];
+    EFI_STATUS status = EFI_OUT_OF_RESOURCES;
+    size_t known = 0;
+
+    memcpy(interfaces, list, count * sizeof *list);
+    while (known < count && path_to_core(&list[known].guid, &interfaces[known].value))
+        known++;
+    if (known == count)
+        status = core_install_many(handle, interfaces, count);
+    for (size_t i = 0; i < known; i++)
+        if (status == EFI_SUCCESS)
+            hold_interface(*handle, &list[i].guid, list[i].value);
+        else if (interfaces[i].value != list[i].value)
+            path_drop(interfaces[i].value);
     return status;
 }
 
@@ -92,14 +121,15 @@ static EFI_STATUS EFIAPI ReinstallProtocolInterface(EFI_HANDLE handle, const EFI
     SERVICE("ReinstallProtocolInterface", NUMBER(handle), NUMBER(guid), NUMBER(old),
             NUMBER(interface));
     const struct rafkudin_guid copy = core_guid(guid);
-    uint64_t number = NUMBER(handle), core_old, core_new;
+    uint64_t number = NUMBER(handle), core_old, core_new = NUMBER(interface);
     enum stopped stopped = NONE_TO_STOP;
     EFI_STATUS status;
 
     if (guid == NULL)
         ANSWER(EFI_INVALID_PARAMETER);
     core_old = path_installed(number, &copy, NUMBER(old));
-    core_new = path_to_core(&copy, NUMBER(interface));
+    if (!path_to_core(&copy, &core_new))
+        ANSWER(EFI_OUT_OF_RESOURCES);
     status = core_reinstall(number, &copy, core_old, core_new);
     if (status == EFI_ACCESS_DENIED)
         stopped = stop_drivers_on(number, &copy);
@@ -116,13 +146,8 @@ static EFI_STATUS EFIAPI ReinstallProtocolInterface(EFI_HANDLE handle, const EFI
     ANSWER(status);
 }
 
-struct listed {
-    struct rafkudin_guid guid;
-    uint64_t value;
-};
-
 /* The pairs of a list of arguments, of at most `room`; `count` is how many there are. */
-static bool read_list(__builtin_ms_va_list words, struct listed *list, size_t *count)
+static bool read_list(__builtin_ms_va_list words, struct rafkudin_interface *list, size_t *count)
 {
     const EFI_GUID *guid;
 
@@ -136,37 +161,14 @@ static bool read_list(__builtin_ms_va_list words, struct listed *list, size_t *c
     return true;
 }
 
-static EFI_STATUS install_list(EFI_HANDLE *handle, const struct listed *list, size_t count)
-{
-    struct rafkudin_interface interfaces[MAX_INTERFACES];
-    uint64_t number = NUMBER(*handle);
-    EFI_STATUS status;
-
-    for (size_t i = 0; i < count; i++) {
-        interfaces[i].guid = list[i].guid;
-        interfaces[i].value = path_to_core(&list[i].guid, list[i].value);
-    }
-    status = core_install_many(&number, interfaces, count);
-    for (size_t i = 0; i < count; i++) {
-        struct held held = {number, 0, 0, list[i].value, {0}, 0, {0}};
-
-        memcpy(&held.guid, &list[i].guid, sizeof held.guid);
-        if (status == EFI_SUCCESS)
-            hold(&held);
-        else if (interfaces[i].value != list[i].value)
-            path_drop(interfaces[i].value);
-    }
-    if (status == EFI_SUCCESS)
-        *handle = HANDLE(number);
-    return status;
-}
-
 /* Of no interfaces the reference implementation makes nothing of it, and returns SUCCESS. */
 static EFI_STATUS EFIAPI InstallMultipleProtocolInterfaces(EFI_HANDLE *handle, ...)
 {
     SERVICE("InstallMultipleProtocolInterfaces", NUMBER(handle));
-    struct listed list[MAX_INTERFACES];
+    struct rafkudin_interface list[MAX_INTERFACES];
     __builtin_ms_va_list words;
+    uint64_t number;
+    EFI_STATUS status;
     size_t count;
     bool fits;
 
@@ -179,11 +181,15 @@ static EFI_STATUS EFIAPI InstallMultipleProtocolInterfaces(EFI_HANDLE *handle, .
         ANSWER(EFI_OUT_OF_RESOURCES);
     if (count == 0)
         ANSWER(EFI_SUCCESS);
-    ANSWER(install_list(handle, list, count));
+    number = NUMBER(*handle);
+    status = install_many(&number, list, count);
+    if (status == EFI_SUCCESS)
+        *handle = HANDLE(number);
+    ANSWER(status);
 }
 
 /* Stops what has one of the interfaces open, up to the first that can't be stopped. */
-static enum stopped stop_drivers_on_list(uint64_t handle, const struct listed *list, size_t count)
+static enum stopped stop_drivers_on_list(uint64_t handle, const struct rafkudin_interface *list, size_t count)
 {
     enum stopped all = NONE_TO_STOP;
 
@@ -198,7 +204,7 @@ static enum stopped stop_drivers_on_list(uint64_t handle, const struct listed *l
 
 /* All interfaces go or none; before they do, the drivers that have one open are stopped, as for
  * UninstallProtocolInterface. */
-static EFI_STATUS uninstall_list(uint64_t handle, const struct listed *list, size_t count)
+static EFI_STATUS uninstall_list(uint64_t handle, const struct rafkudin_interface *list, size_t count)
 {
     struct rafkudin_interface interfaces[MAX_INTERFACES];
     enum stopped stopped = NONE_TO_STOP;
@@ -228,7 +234,7 @@ static EFI_STATUS uninstall_list(uint64_t handle, const struct listed *list, siz
 static EFI_STATUS EFIAPI UninstallMultipleProtocolInterfaces(EFI_HANDLE handle, ...)
 {
     SERVICE("UninstallMultipleProtocolInterfaces", NUMBER(handle));
-    struct listed list[MAX_INTERFACES];
+    struct rafkudin_interface list[MAX_INTERFACES];
     __builtin_ms_va_list words;
     size_t count;
     bool fits;
@@ -337,10 +343,14 @@ static void *lasting_guid(const struct rafkudin_guid *guid)
         it = it->next;
     if (it != NULL)
         return it->shown;
-    shown = make_structure("a GUID of ProtocolsPerHandle", guid, sizeof *guid);
-    if (shown == NULL)
+    it = malloc(sizeof *it);
+    if (it == NULL)
         return NULL;
-    it = must(malloc(sizeof *it));
+    shown = make_structure("a GUID of ProtocolsPerHandle", guid, sizeof *guid);
+    if (shown == NULL) {
+        free(it);
+        return NULL;
+    }
     *it = (struct lasting){*guid, shown, *row};
     *row = it;
     return shown;

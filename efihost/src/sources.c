@@ -30,92 +30,89 @@ static bool file_name(const uint8_t *node, CHAR16 *name)
     return true;
 }
 
-/* The bytes, or NULL where they are not to be had: code that says that it wrote more than the block
- * has is not believed. */
-static uint8_t *bytes_read(uint8_t *bytes, EFI_STATUS status, uint64_t length, uint64_t room)
+/* Whether code has filled a block, which is freed where it has not: one that says that it wrote more
+ * than the block has is not believed. */
+static EFI_STATUS check_read(EFI_STATUS status, struct source *to, uint64_t room)
 {
-    if (bytes != NULL && status == EFI_SUCCESS && length <= room)
-        return bytes;
-    free_machine_block(bytes);
-    return NULL;
+    if (status == EFI_SUCCESS && to->length > room)
+        status = EFI_NOT_FOUND;
+    if (status != EFI_SUCCESS)
+        free_machine_block(to->bytes);
+    return status;
 }
 
-/* Reads a whole file; the bytes are the caller's to free, or NULL. */
-static uint8_t *read_whole(EFI_FILE_PROTOCOL *file, uint64_t *length)
+static EFI_STATUS read_whole(EFI_FILE_PROTOCOL *file, struct source *to)
 {
     uint64_t end = 0;
-    EFI_STATUS status;
-    uint8_t *bytes;
 
     if (file->SetPosition(file, UINT64_MAX) != EFI_SUCCESS ||
         file->GetPosition(file, &end) != EFI_SUCCESS || file->SetPosition(file, 0) != EFI_SUCCESS)
-        return NULL;
-    bytes = try_machine_block(end);
-    if (bytes == NULL)
-        return NULL;
-    *length = end;
-    status = file->Read(file, length, bytes);
-    return bytes_read(bytes, status, *length, end);
+        return EFI_NOT_FOUND;
+    to->length = end;
+    to->bytes = try_machine_block(end);
+    if (to->bytes == NULL)
+        return EFI_OUT_OF_RESOURCES;
+    return check_read(file->Read(file, &to->length, to->bytes), to, end);
 }
 
-static uint8_t *from_file_system(const void *path, uint64_t *length)
+static EFI_STATUS from_file_system(const void *path, struct source *to)
 {
     uint64_t device = 0, matched = 0;
     CHAR16 name[MAX_NAME_LENGTH];
     EFI_SIMPLE_FILE_SYSTEM_PROTOCOL *volume;
     EFI_FILE_PROTOCOL *root = NULL, *file = NULL;
     EFI_STATUS status;
-    uint8_t *bytes;
 
     if (locate_path(&file_system_guid, path, &device, &matched) != EFI_SUCCESS ||
         !file_name((const uint8_t *)path + matched, name))
-        return NULL;
+        return EFI_NOT_FOUND;
     volume = interface_of(device, &file_system_guid);
-    if (volume == NULL || volume->OpenVolume(volume, &root) != EFI_SUCCESS)
-        return NULL;
+    status = volume == NULL ? EFI_NOT_FOUND : volume->OpenVolume(volume, &root);
+    if (status != EFI_SUCCESS)
+        return status;
     status = root->Open(root, &file, name, EFI_FILE_MODE_READ, 0);
     root->Close(root);
     if (status != EFI_SUCCESS)
-        return NULL;
-    bytes = read_whole(file, length);
+        return status;
+    status = read_whole(file, to);
     file->Close(file);
-    return bytes;
+    return status;
 }
 
 /* The device says first how many bytes it has, and then gives them. */
-static uint8_t *from_device(const EFI_GUID *guid, const void *path, bool policy, uint64_t *length)
+static EFI_STATUS from_device(const EFI_GUID *guid, const void *path, bool policy,
+                              struct source *to)
 {
-    uint64_t device = 0, matched = 0, size;
+    uint64_t device = 0, matched = 0, room;
     EFI_LOAD_FILE_PROTOCOL *loader;
     EFI_DEVICE_PATH_PROTOCOL *rest;
-    EFI_STATUS status;
-    uint8_t *bytes;
 
-    *length = 0;
+    to->length = 0;
     if (locate_path(guid, path, &device, &matched) != EFI_SUCCESS)
-        return NULL;
+        return EFI_NOT_FOUND;
     loader = interface_of(device, guid);
     rest = POINTER(NUMBER(path) + matched);
     if (loader == NULL ||
-        loader->LoadFile(loader, rest, policy, length, NULL) != EFI_BUFFER_TOO_SMALL)
-        return NULL;
-    size = *length;
-    bytes = try_machine_block(size);
-    if (bytes == NULL || !has_interface(device, guid, loader))
-        return bytes_read(bytes, EFI_NOT_FOUND, 0, 0);
-    status = loader->LoadFile(loader, rest, policy, length, bytes);
-    return bytes_read(bytes, status, *length, size);
+        loader->LoadFile(loader, rest, policy, &to->length, NULL) != EFI_BUFFER_TOO_SMALL)
+        return EFI_NOT_FOUND;
+    room = to->length;
+    to->bytes = try_machine_block(room);
+    if (to->bytes == NULL)
+        return EFI_OUT_OF_RESOURCES;
+    if (!has_interface(device, guid, loader))
+        return check_read(EFI_NOT_FOUND, to, room);
+    return check_read(loader->LoadFile(loader, rest, policy, &to->length, to->bytes), to, room);
 }
 
-/* The bytes of the image at a path, a block of the machine's that the caller frees, or NULL. A boot
- * option (with the policy true) is for no LoadFile2. */
-uint8_t *read_by_path(const void *path, bool policy, uint64_t *length)
+/* The bytes of the image at a path. A boot option (with the policy true) is for no LoadFile2. Where
+ * a source has no memory for them no other is asked. */
+EFI_STATUS read_by_path(const void *path, bool policy, struct source *to)
 {
-    uint8_t *bytes = from_file_system(path, length);
+    EFI_STATUS status = from_file_system(path, to);
 
-    if (bytes == NULL && !policy)
-        bytes = from_device(&load_file2_guid, path, false, length);
-    if (bytes == NULL)
-        bytes = from_device(&load_file_guid, path, policy, length);
-    return bytes;
+    if (status != EFI_SUCCESS && status != EFI_OUT_OF_RESOURCES && !policy)
+        status = from_device(&load_file2_guid, path, false, to);
+    if (status != EFI_SUCCESS && status != EFI_OUT_OF_RESOURCES)
+        status = from_device(&load_file_guid, path, policy, to);
+    return status == EFI_SUCCESS || status == EFI_OUT_OF_RESOURCES ? status : EFI_NOT_FOUND;
 }

@@ -217,7 +217,8 @@ uint32_t crc32_of(const void *bytes, size_t count)
     return ~sum;
 }
 
-/* Memory of the host itself; without it nothing goes on. */
+/* Memory of the host itself, for what it only notes or needs for a moment; without it nothing goes
+ * on. Without that for what an image asks for, the service is refused. */
 void *must(void *memory)
 {
     if (memory == NULL)

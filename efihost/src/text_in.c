@@ -62,7 +62,7 @@ static EFI_STATUS EFIAPI read_key_ex(EFI_SIMPLE_TEXT_INPUT_EX_PROTOCOL *this, EF
 
     if (key == NULL)
         ANSWER(EFI_INVALID_PARAMETER);
-    memset(key, 0, sizeof *key);
+    *key = (EFI_KEY_DATA){0};
     ANSWER(read_any_key(&key->Key));
 }
 
@@ -82,7 +82,9 @@ static EFI_STATUS EFIAPI register_key(EFI_SIMPLE_TEXT_INPUT_EX_PROTOCOL *this, E
 
     if (key == NULL || notify == NULL || handle == NULL)
         ANSWER(EFI_INVALID_PARAMETER);
-    it = must(malloc(sizeof *it));
+    it = malloc(sizeof *it);
+    if (it == NULL)
+        ANSWER(EFI_OUT_OF_RESOURCES);
     *it = (struct notified){*key, notify, ++notified_numbers, NULL};
     while (*end != NULL)
         end = &(*end)->next;

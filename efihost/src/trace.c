@@ -56,8 +56,9 @@ void open_trace(const char *name, const uint8_t *records, size_t count, uint64_t
     write_machine(name, records, count, granule);
 }
 
-/* The trace ends with the memory map, by a line that is no call, so its reply is made here. A run
- * that has more calls than a trace may have lines ends its trace before. */
+/* The trace ends with the memory map, by a line that is no call, so its reply is made here; but not
+ * where the run ended within the core, which then can't be asked. A run that has more calls than a
+ * trace may have lines ends its trace before. */
 void close_trace(void)
 {
     struct rafkudin_descriptor entry;
@@ -66,12 +67,14 @@ void close_trace(void)
     if (file == NULL)
         return;
     calls_file = NULL;
-    fprintf(file, "list\n");
-    fprintf(replies_file, "%u list descriptors=%zu\n", lines + 1,
-            RafkudinDescriptors(host.core));
-    for (size_t i = 0; RafkudinDescriptor(host.core, i, &entry) == RAFKUDIN_SUCCESS; i++)
-        fprintf(replies_file, "  %u 0x%lx %lu 0x%lx\n", entry.type, entry.physical_start,
-                entry.number_of_pages, entry.attribute);
+    if (!host.in_core) {
+        fprintf(file, "list\n");
+        fprintf(replies_file, "%u list descriptors=%zu\n", lines + 1,
+                RafkudinDescriptors(host.core));
+        for (size_t i = 0; RafkudinDescriptor(host.core, i, &entry) == RAFKUDIN_SUCCESS; i++)
+            fprintf(replies_file, "  %u 0x%lx %lu 0x%lx\n", entry.type, entry.physical_start,
+                    entry.number_of_pages, entry.attribute);
+    }
     fclose(file);
     fclose(replies_file);
 }

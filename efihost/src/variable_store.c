@@ -170,11 +170,15 @@ static void put_bytes(FILE *text, const void *bytes, size_t count)
     }
 }
 
+/* The text of variables, which is the caller's to free, or NULL where there is no memory for it. */
 char *variables_text(const struct variable *first, size_t *length)
 {
     char *text = NULL;
-    FILE *file = must(open_memstream(&text, length));
+    FILE *file = open_memstream(&text, length);
+    bool failed;
 
+    if (file == NULL)
+        return NULL;
     for (const struct variable *it = first; it != NULL; it = it->next) {
         if ((it->attributes & EFI_VARIABLE_NON_VOLATILE) == 0)
             continue;
@@ -185,8 +189,11 @@ char *variables_text(const struct variable *first, size_t *length)
         put_bytes(file, it->value, it->size);
         fputc('\n', file);
     }
-    fclose(file);
-    return must(text);
+    failed = ferror(file) != 0;
+    if (fclose(file) == 0 && !failed)
+        return text;
+    free(text);
+    return NULL;
 }
 
 /* Makes a text the whole of a file, on the disk too. What was there is overwritten before the file
@@ -220,19 +227,22 @@ static bool write_store(const char *text, size_t length)
 
 bool save_variables(const struct variable *first)
 {
-    char *text, *whole;
+    char *text, *whole = NULL;
     size_t length;
-    bool saved;
+    bool saved = false;
 
     if (store_name == NULL)
         return true;
     if (beside < 0)
         return false;
     text = variables_text(first, &length);
-    whole = must(malloc(length + END_LINE + 1));
-    memcpy(whole, text, length);
-    sprintf(whole + length, "end %08x\n", crc32_of(text, length));
-    saved = write_whole(beside, whole, length + END_LINE) && write_store(text, length);
+    if (text != NULL)
+        whole = malloc(length + END_LINE + 1);
+    if (whole != NULL) {
+        memcpy(whole, text, length);
+        sprintf(whole + length, "end %08x\n", crc32_of(text, length));
+        saved = write_whole(beside, whole, length + END_LINE) && write_store(text, length);
+    }
     if (!saved)
         fprintf(stderr, "efihost: cannot write %s: %s\n", store_name, strerror(errno));
     free(whole);

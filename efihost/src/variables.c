@@ -80,17 +80,20 @@ static EFI_STATUS runtime_status(const struct variable *old, uint32_t attributes
     return (attributes & OF_RUNTIME) == OF_RUNTIME ? EFI_SUCCESS : EFI_INVALID_PARAMETER;
 }
 
-/* A variable of this name with the value, behind the old one where it appends. */
+/* A variable of this name with the value, behind the old one where it appends; or NULL. */
 static struct variable *made_variable(const CHAR16 *name, const EFI_GUID *guid,
                                       const struct variable *old, UINTN size, const void *value)
 {
-    struct variable *it = must(calloc(1, sizeof *it));
     size_t before = old == NULL ? 0 : old->size;
+    struct variable *it = calloc(1, sizeof *it);
 
+    if (it == NULL || (it->value = malloc(before + size + 1)) == NULL) {
+        free_variable(it);
+        return NULL;
+    }
     memcpy(it->name, name, 2 * wide_length(name));
     it->guid = *guid;
     it->size = before + size;
-    it->value = must(malloc(it->size + 1));
     if (before != 0)
         memcpy(it->value, old->value, before);
     if (size != 0)
@@ -154,6 +157,8 @@ static EFI_STATUS set_variable(const CHAR16 *name, const EFI_GUID *guid, uint32_
     if (size > MAX_VALUE_SIZE)
         return EFI_OUT_OF_RESOURCES;
     it = made_variable(name, guid, appends ? old : NULL, size, value);
+    if (it == NULL)
+        return EFI_OUT_OF_RESOURCES;
     it->attributes = attributes;
     return put_variable(link, it);
 }

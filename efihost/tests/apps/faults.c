@@ -193,6 +193,14 @@ static EFI_STATUS in_handler(void)
     return null();
 }
 
+static EFI_STATUS map_to_nothing(void)
+{
+    UINTN size = 65536, key, step;
+    uint32_t version;
+
+    return boot->GetMemoryMap(&size, (void *)0x7000000000, &key, &step, &version);
+}
+
 static EFI_STATUS application(void)
 {
     static const struct deed deeds[] = {
@@ -217,6 +225,7 @@ static EFI_STATUS application(void)
         {"deep-in-service", deep_in_service},
         {"copy", copy_across},
         {"callback", in_callback},
+        {"map", map_to_nothing},
         {"twice", twice},
         {"in-handler", in_handler},
     };

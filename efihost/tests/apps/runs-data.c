@@ -103,6 +103,17 @@ static EFI_STATUS in_callback(void)
     return EFI_SUCCESS;
 }
 
+/* A list that a service makes. */
+static EFI_STATUS in_handles(void)
+{
+    EFI_HANDLE *handles;
+    UINTN count;
+
+    MUST(boot->LocateHandleBuffer(0, NULL, NULL, &count, &handles));
+    MUST(runs_at((uint8_t *)handles));
+    return boot->FreePool(handles);
+}
+
 static EFI_STATUS application(void)
 {
     static const struct deed deeds[] = {
@@ -113,6 +124,7 @@ static EFI_STATUS application(void)
         {"former-code", in_former_code},
         {"freed", in_freed},
         {"callback", in_callback},
+        {"handles", in_handles},
     };
 
     return DO_DEED(deeds);

@@ -51,6 +51,7 @@ int LLVMFuzzerTestOneInput(const uint8_t *data, size_t size)
         host_free_pages(image.placed, image.pages);
     } else {
         demand(image_fault()[0] != 0 && memory == NULL);
+        free(image.sections);
     }
     return 0;
 }
