@@ -57,7 +57,7 @@ def skip(what):
 
 
 def run(*arguments, keys=""):
-    how = {"input": keys, "capture_output": True, "text": True, "errors": "replace", "timeout": 100}
+    how = {"input": keys, "capture_output": True, "text": True, "errors": "replace", "timeout": 400 if words.valgrind else 100}
     ran = subprocess.run([EFIHOST, *arguments], **how)
     ran.stdout = ran.stdout.replace("\r", "")
     if ran.returncode == REPORTED:
@@ -122,13 +122,22 @@ def in_valgrind():
 # What isn't run so, and why.
 LEFT_OUT = {
     "sanitized": {
-        "check_many": "the sanitizer has memory at the addresses of its machine",
-        "check_bad_pointers": "some functions of the C library are the sanitizer's, in which a run ends without a report",
-        "check_second_faults": "the sanitizer looks at the handler's stack first",
-        "copy": "the sanitizer's own copy reads ahead",
+        "in-handler": "the image takes the C library's heap away, and the sanitizer has its own",
+        "check_little_process": "a sanitizer needs more memory than that",
     },
     "valgrind": {
-        "check_failing": "each of its images reads or writes at a null pointer, which valgrind reports too",
+        "null-to-pool": "the host writes at a null pointer, which valgrind reports too",
+        "null-to-variable": "the host reads at a null pointer, which valgrind reports too",
+        "null-to-console": "the host reads at a null pointer, which valgrind reports too",
+        "starts-fault": "the host reads at a null pointer, which valgrind reports too",
+        "check_overwritten": "the core follows what the image wrote, which valgrind reports too",
+        "overwrite-pool": "the core follows what the image wrote, which valgrind reports too",
+        "check_strict": "valgrind ends at such an instruction",
+        "check_bad_pointers": "the host reads and writes at bad pointers, which valgrind reports too",
+        "strings": "valgrind begins a handler with the direction of strings that the image set",
+        "interrupt": "valgrind has another signal for it",
+        "division": "valgrind doesn't say which instruction it was",
+        "floating": "valgrind's processor has no such exceptions",
         "check_mutations": "its images read and write anywhere",
         "check_bad_images": "what is loaded of them is fuzzed with sanitizers",
         "check_firmware": "what is read of it is fuzzed with sanitizers",
@@ -140,6 +149,7 @@ LEFT_OUT = {
         "privileged": "valgrind ends at such an instruction",
         "never-placed": "valgrind has memory where it writes",
         "many-blocks": "it takes minutes",
+        "check_little_process": "valgrind needs more memory than that",
     },
 }
 
