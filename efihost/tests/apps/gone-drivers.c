@@ -181,7 +181,7 @@ static EFI_STATUS load_from(const EFI_GUID *guid, void *it)
     for (unsigned i = 0; i < sizeof sizes / sizeof *sizes; i++) {
         first_size = sizes[i];
         if (boot->LoadImage(0, self, (EFI_DEVICE_PATH_PROTOCOL *)(uintptr_t)path, NULL, 0,
-                            &image) != EFI_NOT_FOUND)
+                            &image) != (i < 2 ? EFI_NOT_FOUND : EFI_OUT_OF_RESOURCES))
             return EFI_ABORTED;
     }
     return boot->UninstallMultipleProtocolInterfaces(device, &path_guid, path, guid, it, NULL);
