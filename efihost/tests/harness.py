@@ -134,6 +134,7 @@ LEFT_OUT = {
         "overwrite-pool": "the core follows what the image wrote, which valgrind reports too",
         "check_strict": "valgrind ends at such an instruction",
         "check_bad_pointers": "the host reads and writes at bad pointers, which valgrind reports too",
+        "check_second_faults": "its images take memory away from the host, which valgrind reports, or has itself",
         "strings": "valgrind begins a handler with the direction of strings that the image set",
         "interrupt": "valgrind has another signal for it",
         "division": "valgrind doesn't say which instruction it was",
