@@ -149,6 +149,8 @@ LEFT_OUT = {
         "check_rights": "valgrind needs rights that efihost gives up",
         "privileged": "valgrind ends at such an instruction",
         "never-placed": "valgrind has memory where it writes",
+        "check_callers_of_accesses": "valgrind has memory where the image writes",
+        "check_closed_streams": "valgrind needs them itself",
         "many-blocks": "it takes minutes",
         "check_little_process": "valgrind needs more memory than that",
     },
