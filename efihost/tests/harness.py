@@ -151,6 +151,7 @@ LEFT_OUT = {
         "never-placed": "valgrind has memory where it writes",
         "check_callers_of_accesses": "valgrind has memory where the image writes",
         "check_closed_streams": "valgrind needs them itself",
+        "2 GiB below 4 GiB": "valgrind lies there",
         "many-blocks": "it takes minutes",
         "check_little_process": "valgrind needs more memory than that",
     },
