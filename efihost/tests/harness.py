@@ -152,6 +152,7 @@ LEFT_OUT = {
         "check_callers_of_accesses": "valgrind has memory where the image writes",
         "check_closed_streams": "valgrind needs them itself",
         "2 GiB below 4 GiB": "valgrind lies there",
+        "writes-after-exit": "it writes where the machine has no memory in valgrind",
         "many-blocks": "it takes minutes",
         "check_little_process": "valgrind needs more memory than that",
     },
