@@ -38,3 +38,5 @@ pub mod Edges
 pub mod WholeRuns
 pub mod FewRuns
 pub mod Halves
+pub mod LeafRetyped
+pub mod LeafMoves

@@ -11,3 +11,4 @@ pub mod CutRuns
 pub mod LeafWalks
 pub mod LeafSummaries
 pub mod Reserves
+pub mod LeafBorders

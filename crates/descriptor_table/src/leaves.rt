@@ -1,11 +1,20 @@
 //! Runs in leaves.
-ghost use Rattle.std.specs.Prelude.{◌≡◌, ℕ, ◌+◌, ◌*◌, ◌-◌, ◌<◌, ◌≤◌, ◌++◌, length, map, take, drop, true, false, IfOk, slice_get};
-ghost use Rattle.descriptor_table.specs.Leaves.{first_page, runs_in, AreLeaves};
+ghost use Rattle.std.specs.Prelude.{◌≡◌, ℕ, ◌+◌, ◌*◌, ◌-◌, ◌<◌, ◌≤◌, ◌++◌, [], length, map, take, drop, true, false, vec_capacity, IfOk, IsTrue, slice_get};
+ghost use Rattle.page_ranges.specs.Memory.{retyped};
+ghost use Rattle.page_ranges.specs.MemoryTypes.{page_count};
+ghost use Rattle.page_ranges.specs.Runs.{pages_of, AreMaximalRuns, AreRuns};
+ghost use Rattle.descriptor_table.specs.LeafBorders.{IsLastApart};
+ghost use Rattle.descriptor_table.specs.Leaves.{entry_count, first_page, runs_in, AreLeaves};
 ghost use Rattle.descriptor_table.specs.LeafChanges.{IsEdgeOf, with_edge};
 ghost use Rattle.descriptor_table.specs.LeafSummaries.{MarksFree};
+ghost use Rattle.descriptor_table.specs.Reserves.{cut_count};
 ghost use Rattle.descriptor_table.specs.Summaries.{Allows, AllowsAll, BeginsFree, EndsFree, IsFreeRun, IsLeafOfNoUse};
+ghost use Rattle.descriptor_table.specs.Tables.{EndBy};
 
+use crate::cuts::{push_behind, should_be_one};
+use crate::entries::count_entries;
 use crate::free_marks::{marks_changed, marks_of};
+use crate::retyping::{Retyping, window_of};
 use crate::run_arrays::{move_edge, replace_runs};
 use crate::summaries::{Summary, begins_free, ends_free, summary_changed, summary_of};
 use crate::wanted::Wanted;
@@ -132,6 +141,140 @@ impl<A: Allocator + Copy> Leaf<A> {
             changed,
             most_joins,
         );
+    }
+
+    /// A leaf with no runs.
+    pub(crate) fn empty(alloc: A) -> Result<Leaf<A>, AllocError>
+        ensures { IfOk result (λ leaf. leaf ≡ []) }
+    {
+        Ok(Leaf {
+            first: 0,
+            summary: Summary::none(),
+            marks: 0,
+            begins_free: false,
+            ends_free: false,
+            changes: 0,
+            count: 0,
+            made: 0,
+            runs: Box::new(alloc, ArrayVec::new())?,
+        })
+    }
+
+    /// Replaces some of the leaf's runs by others, perhaps all by none, and recomputes what is kept of them.
+    fn splice(&mut self, low: usize, high: usize, parts: &[Run])
+        requires order { low ≤ high }
+        requires bound { high ≤ length self.old }
+        requires fits { length self.old + length parts.now ≤ 32 + (high - low) }
+        ensures { self.new ≡ take low self.old ++ (parts.now ++ drop high self.old) }
+    {
+        replace_runs(&mut self.runs, low, high, parts);
+        let runs = self.runs.as_slice();
+        self.first = match runs.first() {
+            Some(run) => run.range.first,
+            None => 0,
+        };
+        self.summary = summary_of(runs);
+        self.marks = marks_of(runs);
+        self.begins_free = begins_free(runs);
+        self.ends_free = ends_free(runs);
+        self.changes = 0;
+        self.count = runs.len() as u8;
+    }
+
+    /// Gives the pages of a range a type and an owner, and returns how many map entries the runs near the range
+    /// had and have. `hint` is the index of the run to try first. `parts` is a buffer; its contents are lost.
+    pub(crate) fn retype(
+        &mut self,
+        parts: &mut Vec<Run, A>,
+        retyping: &Retyping,
+        joins: u8,
+        hint: usize,
+    ) -> (usize, usize)
+        requires some { 0 < length self.old }
+        requires order { AreMaximalRuns self.old }
+        requires ends { EndBy page_count self.old }
+        requires within { retyping.now.range.first + retyping.now.range.pages ≤ page_count }
+        requires fits { length self.old + cut_count retyping.now.range self.old ≤ 32 }
+        requires room { 32 ≤ vec_capacity parts.old }
+        ensures pages { pages_of self.new ≡ retyped retyping.now.range retyping.now.mtype
+            retyping.now.owner (pages_of self.old) }
+        ensures order { AreMaximalRuns self.new }
+        ensures few { length self.new ≤ length self.old + cut_count retyping.now.range self.old }
+        ensures entries { entry_count self.new + result.0 ≡ entry_count self.old + result.1 }
+        ensures room { 32 ≤ vec_capacity parts.new }
+    {
+        let Retyping {
+            range,
+            mtype,
+            owner,
+        } = *retyping;
+        let runs = self.runs();
+        let (low, high) = window_of(runs, range, Some(hint));
+        let gone = &runs[low..high];
+        let less = count_entries(gone);
+        parts.clear();
+        let Ok(()) = push_behind(parts, gone, range, mtype, owner) else {
+            unreachable!();
+        };
+        let more = count_entries(parts.as_slice());
+        self.replace(low, high, parts.as_slice(), joins);
+        (less, more)
+    }
+
+    /// Moves runs between the leaf and the next one until this one has `keep` runs.
+    pub(crate) fn level(&mut self, next: &mut Leaf<A>, keep: usize)
+        requires enough { keep ≤ length self.old + length next.old }
+        requires fits { keep ≤ 32 }
+        requires rest { length self.old + length next.old ≤ keep + 32 }
+        ensures runs { self.new ++ next.new ≡ self.old ++ next.old }
+        ensures count { length self.new ≡ keep }
+    {
+        let count = self.runs().len();
+        if keep < count {
+            next.splice(0, 0, &self.runs()[keep..]);
+            self.splice(keep, count, &[]);
+        } else {
+            let moved = keep - count;
+            self.splice(count, count, &next.runs()[..moved]);
+            next.splice(0, moved, &[]);
+        }
+    }
+
+    /// Merges the first run of the next leaf into the last run of this one if they should be one, and returns
+    /// whether it does. The next leaf may then be empty.
+    pub(crate) fn join(&mut self, next: &mut Leaf<A>, joins: u8) -> bool
+        requires sizes { (length self.old ≤ 32) × (length next.old ≤ 32) }
+        requires order { AreMaximalRuns self.old }
+        requires next_order { AreMaximalRuns next.old }
+        requires runs { AreRuns (self.old ++ next.old) }
+        requires ends { EndBy page_count (self.old ++ next.old) }
+        ensures pages { pages_of (self.new ++ next.new) ≡ pages_of (self.old ++ next.old) }
+        ensures order { AreMaximalRuns self.new }
+        ensures next_order { AreMaximalRuns next.new }
+        ensures runs { AreRuns (self.new ++ next.new) }
+        ensures count { length self.new ≡ length self.old }
+        ensures taken { IsTrue result → length next.new + 1 ≡ length next.old }
+        ensures apart { result ≡ false → IsLastApart self.new next.new }
+        ensures kept { result ≡ false → (self.new ≡ self.old) × (next.new ≡ next.old) }
+    {
+        let Some(last) = self.runs().last() else {
+            return false;
+        };
+        let Some(first) = next.runs().first() else {
+            return false;
+        };
+        if !should_be_one(last, first) {
+            return false;
+        }
+        let range = PageRange {
+            first: last.range.first,
+            pages: last.range.pages + first.range.pages,
+        };
+        let run = Run { range, ..*last };
+        let count = self.runs().len();
+        self.replace(count - 1, count, &[run], joins);
+        next.splice(0, 1, &[]);
+        true
     }
 
     /// Moves the page at which a run and the next one meet. The summary is kept as `replace` keeps it.

@@ -84,7 +84,7 @@ pub(crate) fn new_joins(leaves: usize) -> u8 {
 
 /// The indices between which runs share a page with a range or touch it. The run that holds its first page
 /// is likely at an index, if one is given.
-fn window_of(runs: &[Run], range: PageRange, likely: Option<usize>) -> (usize, usize)
+pub(crate) fn window_of(runs: &[Run], range: PageRange, likely: Option<usize>) -> (usize, usize)
     requires runs { AreRuns runs.now }
     requires within { range.first + range.pages ≤ page_count }
     ensures { IsWindow runs.now range result.0 result.1 }
