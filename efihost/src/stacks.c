@@ -4,7 +4,7 @@
  * it gives back on a path from an instruction to its end, or, where that is not plain, from what it
  * takes at its beginning, which is where a call goes whose return address may lie on the stack. Both
  * are kept once they are known. If neither shows it, the first word of the stack counts that points
- * behind a call instruction; such a word may be left from an earlier call. */
+ * past a call instruction; such a word may be left from an earlier call. */
 #include "host.h"
 
 #include <Zydis/Zydis.h>
@@ -40,8 +40,8 @@ static struct kept {
     struct kept *next;
 } *kept_lists[LISTS];
 
-/* What was passed on the way to the end of a function: the jumps that were taken, and what lies behind
- * calls, with what the function gave back of the stack before. */
+/* What was passed on the way to the end of a function: the jumps that were taken, and the instructions
+ * after calls, with what the function gave back of the stack before. */
 struct path {
     uint64_t jumps[64];
     size_t jump_count;
@@ -150,7 +150,7 @@ static struct kept *kept(uint64_t at, uint64_t (*look)(uint64_t at))
     return it == NULL ? keep(at, look, look(at)) : it;
 }
 
-/* Whether a function ends here. At its calls the stack pointer is a multiple of 16, behind its return
+/* Whether a function ends here. At its calls the stack pointer is a multiple of 16, past its return
  * address 8 more: so a jump by a register or memory may be its last call, or stay in it. */
 static bool is_end(const ZydisDecodedInstruction *it, uint64_t given)
 {
@@ -199,8 +199,8 @@ static uint64_t follow(uint64_t at, struct path *path)
     return UNKNOWN;
 }
 
-/* What the function with an instruction gives back from there on. That is known behind all calls on
- * the way then too. */
+/* What the function with an instruction gives back from there on. Then it is known after all calls on
+ * the way too. */
 static uint64_t look_ahead(uint64_t at)
 {
     static struct path path;

@@ -80,7 +80,7 @@ static EFI_STATUS runtime_status(const struct variable *old, uint32_t attributes
     return (attributes & OF_RUNTIME) == OF_RUNTIME ? EFI_SUCCESS : EFI_INVALID_PARAMETER;
 }
 
-/* A variable of this name with the value, behind the old one where it appends; or NULL. */
+/* A variable of this name with the value, after the old one if it appends; or NULL. */
 static struct variable *made_variable(const CHAR16 *name, const EFI_GUID *guid,
                                       const struct variable *old, UINTN size, const void *value)
 {

@@ -1,4 +1,4 @@
--- The pool of a core that is put behind a pointer lies where it was made to lie.
+-- A core that is moved into a box keeps its pool in the same memory.
 use Rattle.std.proofs.Common.{◌≡◌, ℕ, Option, Some, None, IfSome, IfOk, MatchOption, sym, subst}
 use Rattle.std.specs.Option.{ok_or}
 use Rattle.boot_core.specs.Machines.{prepared_placements}

@@ -103,6 +103,6 @@ module _ (rs ss : List Run) (r x : Run) (last : slice_get rs (length rs - 1) ≡
     pub joined_runs : AreMaximalRuns rs → AreRuns (rs ++ ss) → (rest : List Run) → rest ≡ drop 1 ss → AreRuns (new ++ rest)
     joined_runs m a rest e =
         let up = joined_order m a in
-        let behind = runs-right rs (x ∷ drop 1 ss) (runs_there a) in
+        let after = runs-right rs (x ∷ drop 1 ss) (runs_there a) in
         subst (λ qs. AreRuns (new ++ qs)) (sym e)
-        (runs-append (x.range.first + x.range.pages) new (drop 1 ss) (maximal_are_runs new up.0) up.1 behind.2 behind.1)
+        (runs-append (x.range.first + x.range.pages) new (drop 1 ss) (maximal_are_runs new up.0) up.1 after.2 after.1)

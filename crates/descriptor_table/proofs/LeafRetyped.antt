@@ -31,39 +31,39 @@ module _ (rs : List Run) (range : PageRange) (t : ℕ) (o : Owner) (low high : �
   abbrev pub gone : List Run
   gone = take (high - low) (drop low rs)
 
-  abbrev behind : List Run
-  behind = drop high rs
+  abbrev after : List Run
+  after = drop high rs
 
-  cut : rs ≡ before ++ (gone ++ behind)
+  cut : rs ≡ before ++ (gone ++ after)
   cut = three_parts rs low high w.order
 
-  all : AreMaximalRuns (before ++ (gone ++ behind))
+  all : AreMaximalRuns (before ++ (gone ++ after))
   all = subst AreMaximalRuns cut maximal
 
   pub gone_runs : AreRuns gone
-  gone_runs = maximal_are_runs gone (maximal-left gone behind (maximal-right before (gone ++ behind) all))
+  gone_runs = maximal_are_runs gone (maximal-left gone after (maximal-right before (gone ++ after) all))
 
   pub gone_ends : (n : ℕ) → EndBy n rs → EndBy n gone
   gone_ends n e =
       let parts = subst (EndBy n) cut e in
-      all_append_left (λ r. r.range.first + r.range.pages ≤ n) gone behind (all_append_right (λ r. r.range.first + r.range.pages ≤ n) before (gone ++ behind) parts)
+      all_append_left (λ r. r.range.first + r.range.pages ≤ n) gone after (all_append_right (λ r. r.range.first + r.range.pages ≤ n) before (gone ++ after) parts)
 
   pub gone_length : length gone ≡ high - low
   gone_length = length-take-le (high - low) (drop low rs) (omega (arith, length-drop low rs, w.order, w.bound))
 
   pub gone_cuts : cut_count range gone ≤ cut_count range rs
-  gone_cuts = omega (arith, ap (cut_count range) cut, cuts-append range before (gone ++ behind), cuts-append range gone behind)
+  gone_cuts = omega (arith, ap (cut_count range) cut, cuts-append range before (gone ++ after), cuts-append range gone after)
 
   module _ (parts : List Run) (order : AreMaximalRuns parts) (pages : pages_of parts ≡ retyped range t o (pages_of gone)) where
     abbrev pub new : List Run
-    new = before ++ (parts ++ behind)
+    new = before ++ (parts ++ after)
 
-    replacement : (old ps : List Run) → AreMaximalRuns (before ++ (old ++ behind)) → AreMaximalRuns ps → pages_of ps ≡ retyped range t o (pages_of old) → IsReplacement before old ps behind
+    replacement : (old ps : List Run) → AreMaximalRuns (before ++ (old ++ after)) → AreMaximalRuns ps → pages_of ps ≡ retyped range t o (pages_of old) → IsReplacement before old ps after
     replacement [] [] a b e = record { maximal = a; count = refl }
     replacement [] (p ∷ ps) a b e = absurd (omega (arith, some_pages p ps b.0, ap length e))
-    replacement (r ∷ old) ps a b e = replaced range t o before behind w.below w.above (r ∷ old) ps (λ n. absurd (omega (arith, ap length n))) a b e
+    replacement (r ∷ old) ps a b e = replaced range t o before after w.below w.above (r ∷ old) ps (λ n. absurd (omega (arith, ap length n))) a b e
 
-    here : IsReplacement before gone parts behind
+    here : IsReplacement before gone parts after
     here = replacement gone parts all order pages
 
     pub new_order : AreMaximalRuns new
@@ -75,14 +75,14 @@ module _ (rs : List Run) (range : PageRange) (t : ℕ) (o : Owner) (low high : �
     pub new_pages : pages_of new ≡ retyped range t o (pages_of rs)
     new_pages =
         let below = retyped-all_below range t o before (all_implied (λ r. r.range.first + r.range.pages < range.first) (λ r. r.range.first + r.range.pages ≤ range.first) (λ r h. omega arith) before w.below) in
-        let above = retyped-all_above range t o behind (all_implied (λ r. range.first + range.pages < r.range.first) (λ r. range.first + range.pages ≤ r.range.first) (λ r h. omega arith) behind w.above) in
-        let old = ap pages_of cut ∙ pages_of-append before (gone ++ behind) ∙ ap (λ m. pages_of before ++ m) (pages_of-append gone behind) in
-        pages_of-append before (parts ++ behind) ∙ ap (λ m. pages_of before ++ m) (pages_of-append parts behind)
-        ∙ ap₂ ◌++◌ (sym below) (ap₂ ◌++◌ pages (sym above) ∙ sym (retyped-append range t o (pages_of gone) (pages_of behind)))
-        ∙ sym (ap (retyped range t o) old ∙ retyped-append range t o (pages_of before) (pages_of gone ++ pages_of behind))
+        let above = retyped-all_above range t o after (all_implied (λ r. range.first + range.pages < r.range.first) (λ r. range.first + range.pages ≤ r.range.first) (λ r h. omega arith) after w.above) in
+        let old = ap pages_of cut ∙ pages_of-append before (gone ++ after) ∙ ap (λ m. pages_of before ++ m) (pages_of-append gone after) in
+        pages_of-append before (parts ++ after) ∙ ap (λ m. pages_of before ++ m) (pages_of-append parts after)
+        ∙ ap₂ ◌++◌ (sym below) (ap₂ ◌++◌ pages (sym above) ∙ sym (retyped-append range t o (pages_of gone) (pages_of after)))
+        ∙ sym (ap (retyped range t o) old ∙ retyped-append range t o (pages_of before) (pages_of gone ++ pages_of after))
 
     pub new_length : length new + (high - low) ≡ length rs + length parts
-    new_length = omega (arith, length-append before (parts ++ behind), length-append parts behind, length-take-le low rs (omega (arith, w.order, w.bound)), length-drop high rs, w.order, w.bound)
+    new_length = omega (arith, length-append before (parts ++ after), length-append parts after, length-take-le low rs (omega (arith, w.order, w.bound)), length-drop high rs, w.order, w.bound)
 
     -- there are no parts only if nothing is replaced
     none_gone : (old ps : List Run) → AreMaximalRuns old → pages_of ps ≡ retyped range t o (pages_of old) → length ps ≡ 0 → length old ≡ 0
@@ -95,4 +95,4 @@ module _ (rs : List Run) (range : PageRange) (t : ℕ) (o : Owner) (low high : �
     some_of (p ∷ ps) none h = omega (arith, w.bound)
 
     pub some_left : 0 < length rs → high < length rs + low + length parts
-    some_left h = some_of parts (none_gone gone parts (maximal-left gone behind (maximal-right before (gone ++ behind) all)) pages) h
+    some_left h = some_of parts (none_gone gone parts (maximal-left gone after (maximal-right before (gone ++ after) all)) pages) h

@@ -1,6 +1,6 @@
 /* Functions that move the stack pointer between their calls, with words on the stack that look like a
  * return address of another's, or that go on to another by a jump; and one that calls itself often.
- * Each way a function is called that writes behind a block. */
+ * Each way a function is called that writes past the end of a block. */
 #include "app.h"
 
 #define ALONE __attribute__((noinline))
