@@ -11,8 +11,7 @@ use Rattle.descriptor_table.specs.LeafSummaries.{AllowsNear}
 use Rattle.descriptor_table.specs.Summaries.{Allows, AllowsBetween, AllowsRun, joined}
 use Rattle.descriptor_table.proofs.FreeMarks.{get_taken}
 use Rattle.descriptor_table.proofs.FreeBounds.{joined_left, joined_right}
-use Rattle.descriptor_table.proofs.LaterEntries.{get_dropped}
-use Rattle.descriptor_table.proofs.LeafSizes.{get_left, get_right}
+use Rattle.descriptor_table.proofs.LeafLists.{get_dropped, get_left, get_right}
 
 -- the first page is that of the first run
 pub first_run : (rs : List Run) (r : Run) → 0 < length rs → (get_or rs 0 r).range.first ≡ first_page rs

@@ -1,5 +1,5 @@
 -- How many more runs there are once a range cuts some.
-use Rattle.std.proofs.Common.{◌≡◌, ℕ, ◌+◌, ◌<◌, ◌≤◌, Bool, true, false, ◌&&◌, if◌then◌else◌, List, [], ◌∷◌, ◌++◌, length, length-append, get_or, take, drop, inl, inr, refl, sym, ap, subst, ◌∙◌, append-nil, take-append-drop, arith}
+use Rattle.std.proofs.Common.{◌≡◌, ℕ, zero, suc, ◌+◌, ◌<◌, ◌≤◌, Bool, true, false, ◌&&◌, if◌then◌else◌, List, [], ◌∷◌, ◌++◌, length, length-append, get_or, take, drop, inl, inr, refl, sym, ap, ap₂, subst, ◌∙◌, append-nil, append_assoc, take-append-drop, arith}
 use Rattle.std.specs.Prelude.{nat_lt, Result, Ok, Err, OnErr}
 use Rattle.std.specs.List.{AllByRecursion}
 use Rattle.std.proofs.lemmas.List.{take_more}
@@ -11,8 +11,8 @@ use Rattle.page_ranges.proofs.Members.{all_implied}
 use Rattle.page_ranges.proofs.RunLists.{runs-right}
 use Rattle.descriptor_table.specs.Leaves.{runs_in}
 use Rattle.descriptor_table.specs.Reserves.{cuts_at, cut_count}
+use Rattle.descriptor_table.proofs.Begun.{runs_with_leaf}
 use Rattle.descriptor_table.proofs.LeafLists.{runs_in-append}
-use Rattle.descriptor_table.proofs.LeavesAcross.{leaf_and_rest, with_next}
 
 -- what holds holds on a failure
 pub on_err : {T E P : Type 0} (r : Result T E) → P → OnErr r P
@@ -95,6 +95,21 @@ pub parts_of_one_more : (range : PageRange) (rs : List Run) (i : ℕ) (r : Run) 
 parts_of_one_more range rs i r h e = omega (arith, cuts_more range rs i r h e, cuts_of_first range rs (i + 1))
 
 -- ---- leaves one after the other
+
+next_leaf : (ls : List (List Run)) (j : ℕ) (d : List Run) → j < length ls → runs_in (drop j ls) ≡ get_or ls j d ++ runs_in (drop (suc j) ls)
+next_leaf [] j d h = absurd (omega arith)
+next_leaf (l ∷ ls) zero d h = refl
+next_leaf (l ∷ ls) (suc j) d h = next_leaf ls j d (omega arith)
+
+pub leaf_and_rest : (ls : List (List Run)) (last l : List Run) (j : ℕ) → j < length ls → l ≡ get_or ls j l → runs_in (drop j ls) ++ last ≡ l ++ (runs_in (drop (j + 1) ls) ++ last)
+leaf_and_rest ls last l j h at =
+    let e : suc j ≡ j + 1 = omega arith in
+    ap (λ rs. rs ++ last) (next_leaf ls j l h ∙ ap₂ (λ x k. x ++ runs_in (drop k ls)) (sym at) e) ∙ append_assoc l (runs_in (drop (j + 1) ls)) last
+
+pub with_next : (ls : List (List Run)) (first l : List Run) (j : ℕ) → j < length ls → l ≡ get_or ls j l → (first ++ runs_in (take j ls)) ++ l ≡ first ++ runs_in (take (j + 1) ls)
+with_next ls first l j h at =
+    let e : suc j ≡ j + 1 = omega arith in
+    ap (λ x. (first ++ runs_in (take j ls)) ++ x) at ∙ sym (runs_with_leaf first ls j l h) ∙ ap (λ k. first ++ runs_in (take k ls)) e
 
 pub runs_of_both : (ls : List (List Run)) (j : ℕ) → runs_in ls ≡ runs_in (take j ls) ++ runs_in (drop j ls)
 runs_of_both ls j = ap runs_in (sym (take-append-drop j ls)) ∙ runs_in-append (take j ls) (drop j ls)

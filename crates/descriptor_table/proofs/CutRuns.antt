@@ -8,10 +8,9 @@ use Rattle.page_ranges.specs.Memory.{Page, row, retyped}
 use Rattle.page_ranges.specs.Runs.{page_in, pages_of, AreRuns}
 use Rattle.page_ranges.proofs.Retyped.{retyped-append}
 use Rattle.page_ranges.proofs.RunLists.{pages_of_run, retyped_run, retyped-all_above, retyped-all_below, retyped-cut, pages_of-append, ends_before, EndBy-higher}
-use Rattle.page_ranges.proofs.Members.{all_append_left, all_append_right}
-use Rattle.descriptor_table.specs.LeafChanges.{AppendsRetyped, BeginBehind, EndsWith}
+use Rattle.page_ranges.proofs.Members.{all_append_right}
+use Rattle.descriptor_table.specs.LeafChanges.{AppendsRetyped, BeginBehind}
 use Rattle.descriptor_table.specs.Tables.{AreMaximalUpTo, EndBy}
-use Rattle.descriptor_table.proofs.LeafLists.{end_by_next}
 
 pub row_none : (ms : List Page) (n : ℕ) (x : Page) → n ≡ 0 → ms ≡ ms ++ row n x
 unfolding row
@@ -72,11 +71,3 @@ last_taken rs i end r h e a = omega (arith, (all_append_right (λ q. q.range.fir
 pub behind_none : (rs : List Run) → BeginBehind [] rs
 behind_none [] = tt
 behind_none (r ∷ rs) = (tt, behind_none rs)
-
--- what comes behind some runs begins behind the new ones that end with these
-pub behind_more : (rs rest old new : List Run) → AreRuns (rs ++ rest) → EndsWith rs old new → BeginBehind old rest → BeginBehind new rest
-behind_more rs [] old new a e b = tt
-behind_more rs (r ∷ rest) old new a e b = (
-  e r.range.first (end_by_next rs (r ∷ rest) a (omega arith)) b.0,
-  behind_more (rs ++ r ∷ []) rest old new (subst AreRuns (sym (append_assoc rs (r ∷ []) rest)) a) (λ end h. e end (all_append_left (λ q. q.range.first + q.range.pages ≤ end) rs (r ∷ []) h)) b.1,
-)

@@ -1,8 +1,8 @@
 -- The free runs of leaves from the highest down.
-use Rattle.std.proofs.Common.{◌≡◌, ◌≢◌, ℕ, zero, suc, ◌+◌, ◌-◌, ◌*◌, ◌^◌, ◌<◌, ◌≤◌, Bool, true, false, cond, true≢false, eqb, List, [], ◌∷◌, ◌++◌, length, get_or, take, drop, Option, Some, None, inl, inr, refl, sym, ap, subst, ◌∙◌, append_assoc, append-nil, arith}
+use Rattle.std.proofs.Common.{◌≡◌, ◌≢◌, ℕ, zero, suc, ◌+◌, ◌-◌, ◌<◌, ◌≤◌, Bool, true, false, cond, eqb, List, [], ◌∷◌, ◌++◌, length, get_or, take, drop, Option, Some, None, inl, inr, refl, sym, ap, subst, ◌∙◌, append_assoc, append-nil, arith}
 use Rattle.std.specs.Prelude.{slice_get}
 use Rattle.std.specs.List.{AllByRecursion}
-use Rattle.std.proofs.lemmas.Bool.{cases_lt, eqb-true, eq-eqb, ne_eqb}
+use Rattle.std.proofs.lemmas.Bool.{cases_lt, eq-eqb, ne_eqb}
 use Rattle.std.proofs.lemmas.List.{take_more, take_all, get_or_past, drop_more}
 use Rattle.std.proofs.lemmas.Option.{get_or_from_slice_get, slice_get_within, slice_get_past}
 use Rattle.page_ranges.specs.declared.ranges.Descriptor.{Descriptor}
@@ -14,17 +14,15 @@ use Rattle.page_ranges.specs.Runs.{pages_of, AreMaximalRuns}
 use Rattle.page_ranges.proofs.MaximalRuns.{maximal_are_runs}
 use Rattle.page_ranges.proofs.Members.{all_append}
 use Rattle.descriptor_table.specs.declared.wanted.Wanted.{Wanted}
-use Rattle.descriptor_table.specs.Leaves.{IsPlace, first_page, leaf_at, run_before, runs_in, AreLeaves}
-use Rattle.descriptor_table.specs.declared.groups.Group.{Group}
-use Rattle.descriptor_table.specs.Summaries.{AreGroups, BeginsFree, IsFreeRun, IsLeafOfNoUse, may_hold}
+use Rattle.descriptor_table.specs.Leaves.{IsPlace, leaf_at, run_before, runs_in, AreLeaves}
+use Rattle.descriptor_table.specs.Summaries.{BeginsFree, IsLeafOfNoUse}
 use Rattle.descriptor_table.specs.LeafSummaries.{MarksFree, NoneMarked}
 use Rattle.descriptor_table.specs.LeafWalks.{IsAboveRun, IsBelowRun, run_above, run_below}
 use Rattle.descriptor_table.specs.Tables.{entry_of, IsBlockBelow}
 use Rattle.descriptor_table.specs.Wanting.{AreOfNoUse, IsOfNoUse, entries_of, is_of, most_gain}
-use Rattle.descriptor_table.proofs.FreeBounds.{gain_most, grouped_leaf_of_no_use}
+use Rattle.descriptor_table.proofs.FreeBounds.{gain_most}
 use Rattle.descriptor_table.proofs.FreeMarks.{none_free}
-use Rattle.descriptor_table.proofs.LaterEntries.{get_dropped}
-use Rattle.descriptor_table.proofs.LeafLists.{leaf_at as is_leaf, leaf_firsts_rise}
+use Rattle.descriptor_table.proofs.LeafLists.{get_dropped, leaf_at as is_leaf}
 use Rattle.descriptor_table.proofs.NoUse.{entries-append, in_leaf, leaf_no_use, offset, offset_next, runs_next}
 use Rattle.descriptor_table.proofs.Places.{below_is_none, above_is_none, next_ends, passed_ends}
 use Rattle.descriptor_table.proofs.TableFacts.{proper_ends}
@@ -203,18 +201,3 @@ module _ (w : Wanted) (ls : List (List Run)) (leaves : AreLeaves ls) (maximal : 
   -- a leaf of no use
   pub one_of_no_use : (j : ℕ) (goes_on : Bool) → j < length ls → BeginsFree goes_on (leaf_at ls (j + 1)) → IsLeafOfNoUse w goes_on (leaf_at ls j) → AllByRecursion (IsOfNoUse (pages_of (runs_in ls)) w) (entries_of (leaf_at ls j))
   one_of_no_use j goes_on h begins none = leaf_no_use ls leaves maximal proper j h w goes_on begins none
-
-  -- the leaves of a group whose summary says so
-  pub group_of_no_use : (gs : List Group) (g : ℕ) (group : Group) → AreGroups ls gs → slice_get gs g ≡ Some group → 8 * g + 8 ≤ length ls → may_hold group.summary w ≡ false → w.pages < 2 ^ 64 → w.gain ≤ 3 → AreOfNoUse w ls (8 * g) (8 * g + 8)
-  group_of_no_use gs g group groups at bound f small few j low high =
-      let mark = free_mark (leaf_at ls (j + 1)) in
-      one_of_no_use j mark.0 (omega (arith, high, bound)) mark.1 (grouped_leaf_of_no_use group.summary w ls j mark.0 f small few (groups g group at j low high (inr (omega arith))) mark.2)
-    where
-      free_mark : (l : List Run) → (mark : Bool) × BeginsFree mark l × (mark ≡ true → IsFreeRun (slice_get l 0))
-      free_mark [] = (false, (λ f. absurd f), λ e. absurd (true≢false (sym e)))
-      free_mark (r ∷ l) = (eqb r.mtype conventional, (λ f. eq-eqb r.mtype conventional f), λ e. eqb-true r.mtype conventional e)
-
-  -- leaves that begin at the limit or above
-  pub limit_of_no_use : (k high : ℕ) → high ≤ length ls → w.limit ≤ first_page (leaf_at ls k) → AreOfNoUse w ls k high
-  limit_of_no_use k high bound limit j low below =
-      leaf_no_use ls leaves maximal proper j (omega (arith, below, bound)) w true (λ f. refl) (inl (omega (arith, limit, leaf_firsts_rise ls leaves (maximal_are_runs (runs_in ls) maximal) k j [] low (omega (arith, below, bound)))))

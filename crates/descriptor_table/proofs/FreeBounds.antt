@@ -1,5 +1,5 @@
 -- Bounds of the free runs among some runs.
-use Rattle.std.proofs.Common.{◌≡◌, ◌≢◌, ◌⊎◌, ℕ, ◌+◌, ◌-◌, ◌%◌, ◌^◌, ◌<◌, ◌≤◌, max, min, Bool, true, false, cond, true≢false, eqb, leb, List, get_or, length, Option, Some, None, inl, inr, refl, sym, ap, subst, ◌∙◌, arith}
+use Rattle.std.proofs.Common.{◌≡◌, ◌≢◌, ◌⊎◌, ℕ, ◌+◌, ◌%◌, ◌^◌, ◌<◌, ◌≤◌, max, min, Bool, true, false, cond, true≢false, eqb, leb, List, get_or, Option, Some, None, inl, inr, refl, sym, ap, subst, ◌∙◌, arith}
 use Rattle.std.specs.Prelude.{slice_get, bit_or, bit_and}
 use Rattle.std.specs.Int.{bit_at}
 use Rattle.std.proofs.lemmas.Bool.{cases_Bool, cases_eq, eq-eqb, ne_eqb, leb-false}
@@ -8,8 +8,8 @@ use Rattle.std.proofs.lemmas.Nat.Bits.{bit_at_or, bit_at_and, bit_at-lt, bit_at-
 use Rattle.page_ranges.specs.declared.ranges.Run.{Run}
 use Rattle.descriptor_table.specs.declared.summaries.Summary.{Summary}
 use Rattle.descriptor_table.specs.declared.wanted.Wanted.{Wanted}
-use Rattle.descriptor_table.specs.Leaves.{leaf_at, run_before}
-use Rattle.descriptor_table.specs.Summaries.{Allows, AllowsAll, AllowsLeaf, AllowsRun, EndsFree, GoesOnFree, IsFreeRun, IsLeafOfNoUse, RunGainsLittle, bit_of, joined, may_be, may_hold, most_gained, pair_of}
+use Rattle.descriptor_table.specs.Leaves.{run_before}
+use Rattle.descriptor_table.specs.Summaries.{Allows, AllowsAll, AllowsRun, EndsFree, GoesOnFree, IsFreeRun, IsLeafOfNoUse, RunGainsLittle, bit_of, joined, may_be, may_hold, most_gained, pair_of}
 use Rattle.descriptor_table.specs.Wanting.{most_gain}
 
 -- ---- bits
@@ -82,13 +82,6 @@ all_joined s u a n t h =
     let w = a n t h in (
       omega (arith, w.0),
       omega (arith, w.1, gained_more u (joined s u) n t (or_high s.lengths u.lengths n) (or_high s.beside u.beside t) (or_high s.between u.between (pair_of n t))),
-    )
-
-pub all_joined_left : (s u : Summary) → AllowsAll s → AllowsAll (joined s u)
-all_joined_left s u a n t h =
-    let w = a n t h in (
-      omega (arith, w.0),
-      omega (arith, w.1, gained_more s (joined s u) n t (or_low s.lengths u.lengths n) (or_low s.beside u.beside t) (or_low s.between u.between (pair_of n t))),
     )
 
 pub may_be_most : (t : ℕ) (o : Option Run) → may_be t o ≤ 1
@@ -166,10 +159,6 @@ allows_at s rs i j b a q r e is at below above allowed =
     subst (λ x. AllowsRun s x r (slice_get rs (i + 1))) (below ∙ ap (run_before rs) (sym e))
     (subst (λ x. AllowsRun s b r x) (above ∙ ap (λ k. slice_get rs (k + 1)) (sym e)) (subst (λ x. AllowsRun s b x a) (same_run rs i j q r e is at) allowed))
 
--- the mark of the last run
-pub ends_marked : (rs : List Run) (o : Option Run) (mark : Bool) → o ≡ slice_get rs (length rs - 1) → (IsFreeRun o → mark ≡ true) → EndsFree mark rs
-ends_marked rs o mark is free i last f = free (subst IsFreeRun (let e : i ≡ length rs - 1 = omega arith in ap (slice_get rs) e ∙ sym is) f)
-
 -- ---- a leaf that is of no use
 
 not_held : (s : Summary) (w : Wanted) → may_hold s w ≡ false → (s.longest < w.pages) ⊎ (most_gained s w.pages w.mtype < w.gain)
@@ -200,23 +189,6 @@ leaf_of_no_use s w l goes_on ends f small a free apart =
       gains_little s w (run_before l i) r (slice_get l (i + 1)) f small (a i r at is),
       λ last. elim (cases_Bool goes_on) [
         | inl t ↦ absurd (true≢false (sym (free i last (subst IsFreeRun (sym at) is)) ∙ apart t))
-        | inr n ↦ n
-      ],
-    ))
-
--- no summary that allows all says that nothing is of use
-all_may_hold : (s : Summary) (w : Wanted) → AllowsAll s → w.pages < 2 ^ 64 → w.gain ≤ 3 → may_hold s w ≡ false → ⊥
-all_may_hold s w a small few f =
-    let all = a w.pages w.mtype small in
-    elim (not_held s w f) [ inl l ↦ absurd (omega (arith, l, all.0)) | inr l ↦ absurd (omega (arith, l, all.1, few)) ]
-
--- a leaf of a group of no use, whatever is known of the leaf above it
-pub grouped_leaf_of_no_use : (s : Summary) (w : Wanted) (ls : List (List Run)) (j : ℕ) (goes_on : Bool) → may_hold s w ≡ false → w.pages < 2 ^ 64 → w.gain ≤ 3 → AllowsLeaf s ls j → (goes_on ≡ true → IsFreeRun (slice_get (leaf_at ls (j + 1)) 0)) → IsLeafOfNoUse w goes_on (leaf_at ls j)
-grouped_leaf_of_no_use s w ls j goes_on f small few a begins =
-    inr (λ i r low high at is. (
-      gains_little s w (run_before (leaf_at ls j) i) r (slice_get (leaf_at ls j) (i + 1)) f small (a.runs i r at is),
-      λ last. elim (cases_Bool goes_on) [
-        | inl t ↦ absurd (all_may_hold s w (a.joins i last (subst IsFreeRun (sym at) is) (begins t)) small few f)
         | inr n ↦ n
       ],
     ))

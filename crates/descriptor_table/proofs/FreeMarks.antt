@@ -11,8 +11,7 @@ use Rattle.page_ranges.specs.MemoryTypes.{conventional}
 use Rattle.descriptor_table.specs.Summaries.{IsFreeRun}
 use Rattle.descriptor_table.specs.LeafSummaries.{MarksFree, NoneMarked}
 use Rattle.descriptor_table.proofs.FreeBounds.{same_run}
-use Rattle.descriptor_table.proofs.LaterEntries.{get_dropped}
-use Rattle.descriptor_table.proofs.LeafSizes.{get_left, get_right}
+use Rattle.descriptor_table.proofs.LeafLists.{get_dropped, get_left, get_right}
 
 -- ---- shifts
 

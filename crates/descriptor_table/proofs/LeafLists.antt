@@ -1,6 +1,6 @@
 -- Leaves of runs, and the runs in them.
 use Rattle.std.proofs.Common.{◌≡◌, ℕ, zero, suc, ◌+◌, ◌<◌, ◌≤◌, List, [], ◌∷◌, ◌++◌, length, length-append, get_or, take, drop, Option, Some, None, Contains, refl, sym, ap, subst, ◌∙◌, append-nil, arith}
-use Rattle.std.specs.Prelude.{IfSome}
+use Rattle.std.specs.Prelude.{IfSome, slice_get}
 use Rattle.std.specs.List.{AllByRecursion}
 use Rattle.std.specs.List.Sorted.{IsNonDecreasingBy}
 use Rattle.std.proofs.lemmas.List.Concat.{flat_map-append}
@@ -163,3 +163,29 @@ no_leaves (l ∷ ls) e = absurd (omega arith)
 pub no_runs_in : (ls : List (List Run)) → AreLeaves ls → length (runs_in ls) ≡ 0 → length ls ≡ 0
 no_runs_in [] a e = refl
 no_runs_in (l ∷ ls) a e = absurd (omega (arith, a.0.0, length-append l (runs_in ls)))
+
+-- ---- runs by index
+
+pub get_left : (xs ys : List Run) (k : ℕ) → k < length xs → slice_get (xs ++ ys) k ≡ slice_get xs k
+get_left [] ys k h = absurd (omega arith)
+get_left (x ∷ xs) ys zero h = refl
+get_left (x ∷ xs) ys (suc k) h = get_left xs ys k (omega arith)
+
+pub get_right : (xs ys : List Run) (k j : ℕ) → k ≡ length xs + j → slice_get (xs ++ ys) k ≡ slice_get ys j
+get_right [] ys k j e = let f : k ≡ j = omega arith in ap (slice_get ys) f
+get_right (x ∷ xs) ys zero j e = absurd (omega arith)
+get_right (x ∷ xs) ys (suc k) j e = get_right xs ys k j (omega arith)
+
+pub get_dropped : {X : Type 0} (xs : List X) (n k i : ℕ) → n + k ≡ i → slice_get (drop n xs) k ≡ slice_get xs i
+get_dropped xs zero k i e = let f : k ≡ i = omega arith in ap (slice_get xs) f
+get_dropped [] (suc n) zero i e = refl
+get_dropped [] (suc n) (suc k) i e = refl
+get_dropped (x ∷ xs) (suc n) k zero e = absurd (omega arith)
+get_dropped (x ∷ xs) (suc n) k (suc i) e = get_dropped xs n k i (omega arith)
+
+-- a run of a leaf is one of all, behind those of the leaves before it
+pub run_of_leaf : (ls : List (List Run)) (j i : ℕ) (d : List Run) → j < length ls → i < length (get_or ls j d) → slice_get (runs_in ls) (length (runs_in (take j ls)) + i) ≡ slice_get (get_or ls j d) i
+run_of_leaf [] j i d h k = absurd (omega arith)
+run_of_leaf (l ∷ ls) zero i d h k = let e : 0 + i ≡ i = omega arith in ap (slice_get (l ++ runs_in ls)) e ∙ get_left l (runs_in ls) i k
+run_of_leaf (l ∷ ls) (suc j) i d h k =
+    get_right l (runs_in ls) (length (l ++ runs_in (take j ls)) + i) (length (runs_in (take j ls)) + i) (omega (arith, length-append l (runs_in (take j ls)))) ∙ run_of_leaf ls j i d (omega arith) k

@@ -3,7 +3,7 @@ use Rattle.std.proofs.Common.{◌≡◌, ℕ, zero, suc, ◌+◌, ◌<◌, ◌�
 use Rattle.std.specs.Prelude.{slice_get}
 use Rattle.std.specs.List.{AllByRecursion}
 use Rattle.std.proofs.lemmas.Bool.{cases_Bool, cases_eq, cases_lt, eqb-true, eq-eqb}
-use Rattle.std.proofs.lemmas.List.{take_more, take_all, take-map, map-append}
+use Rattle.std.proofs.lemmas.List.{take_more, take_all, map-append}
 use Rattle.std.proofs.lemmas.List.Elements.{filter-append}
 use Rattle.std.proofs.lemmas.Option.{get_or_from_slice_get, slice_get_within, slice_get-get_or, slice_get_past}
 use Rattle.page_ranges.specs.declared.ranges.Descriptor.{Descriptor}
@@ -21,9 +21,7 @@ use Rattle.descriptor_table.specs.Tables.{entry_of, IsBlockBelow}
 use Rattle.descriptor_table.specs.Wanting.{IsOfNoUse, entries_of, is_of, most_gain}
 use Rattle.descriptor_table.proofs.FreeBounds.{goes_on_free, may_be_most}
 use Rattle.descriptor_table.proofs.FreeRuns.{above_touching, above_gap, above_last, below_touching, below_gap, below_first, free_run, other_run, is_free}
-use Rattle.descriptor_table.proofs.LeafLists.{begin_by_first, leaf_runs, runs_in-last, leaf_at as is_leaf}
-use Rattle.descriptor_table.proofs.LeafSizes.{run_of_leaf, total_sizes}
-use Rattle.descriptor_table.specs.Tallies.{total}
+use Rattle.descriptor_table.proofs.LeafLists.{begin_by_first, leaf_runs, run_of_leaf, runs_in-last, leaf_at as is_leaf}
 
 -- ---- lists
 
@@ -131,7 +129,7 @@ abbrev pub offset : List (List Run) → ℕ → ℕ
 offset ls j = length (runs_in (take j ls))
 
 pub in_leaf : (ls : List (List Run)) (j i : ℕ) → j < length ls → i < length (leaf_at ls j) → slice_get (runs_in ls) (offset ls j + i) ≡ slice_get (leaf_at ls j) i
-in_leaf ls j i h l = run_of_leaf ls j i (offset ls j + i) [] (omega (arith, ap total (take-map length j ls), total_sizes (take j ls))) h l
+in_leaf ls j i h l = run_of_leaf ls j i [] h l
 
 pub runs_next : (ls : List (List Run)) (j : ℕ) → j < length ls → runs_in (take (j + 1) ls) ≡ runs_in (take j ls) ++ leaf_at ls j
 runs_next ls j h = ap runs_in (take_more ls j [] h) ∙ runs_in-last (take j ls) (leaf_at ls j)

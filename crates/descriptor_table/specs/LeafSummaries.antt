@@ -1,12 +1,11 @@
--- What is kept of a leaf, and of a group once one of its leaves has changed.
-use Rattle.std.specs.Prelude.{◌≡◌, ℕ, ◌+◌, ◌-◌, ◌*◌, ◌⊎◌, ◌<◌, ◌≤◌, ◌++◌, Bool, List, Some, length, take, drop, slice_get}
+-- What is kept of a leaf.
+use Rattle.std.specs.Prelude.{◌≡◌, ℕ, ◌+◌, ◌-◌, ◌⊎◌, ◌<◌, ◌≤◌, ◌++◌, Bool, List, Some, length, take, drop, slice_get}
 use Rattle.std.specs.Int.{bit_at}
 use Rattle.page_ranges.specs.declared.ranges.Run.{Run}
 use Rattle.page_ranges.specs.MemoryTypes.{conventional}
-use Rattle.descriptor_table.specs.declared.groups.Group.{Group}
 use Rattle.descriptor_table.specs.declared.summaries.Summary.{Summary}
-use Rattle.descriptor_table.specs.Leaves.{first_page, leaf_at, run_before}
-use Rattle.descriptor_table.specs.Summaries.{Allows, AllowsLeaf, AllowsRun, AreGroupsBut, BeginsFree, EndsFree, IsFreeRun}
+use Rattle.descriptor_table.specs.Leaves.{first_page, run_before}
+use Rattle.descriptor_table.specs.Summaries.{Allows, AllowsRun, BeginsFree, EndsFree, IsFreeRun}
 
 -- the bit of each free run is set
 abbrev pub MarksFree : ℕ → List Run → Type 0
@@ -38,32 +37,3 @@ AllowsNear rs low high old new =
     (i : ℕ) (r : Run) → slice_get rs i ≡ Some r → r.mtype ≡ conventional
     → ((low ≤ i + 1) × (i ≤ high)) ⊎ AllowsRun old (run_before rs i) r (slice_get rs (i + 1))
     → AllowsRun new (run_before rs i) r (slice_get rs (i + 1))
-
--- A new summary of the group of a number allows the leaf at an index, and each leaf of the group that
--- the old one allows.
-abbrev pub AllowsAlso : ℕ → List (List Run) → ℕ → Summary → Summary → Type 0
-AllowsAlso leaf ls number old new = (j : ℕ) → 8 * number ≤ j → j < 8 * number + 8
-    → (j ≡ leaf) ⊎ AllowsLeaf old ls j
-    → AllowsLeaf new ls j
-
--- Where the old groups' summaries allow all leaves but some from an index on, the new ones allow the
--- leaf at that index too.
-abbrev pub AllowNext : List (List Run) → ℕ → List Group → List Group → Type 0
-AllowNext ls leaf old new =
-    (high : ℕ) → AreGroupsBut ls old leaf high → AreGroupsBut ls new (leaf + 1) high
-
--- Each group's summary allows the free runs of the leaf below an index, without what comes behind it.
-abbrev pub AllowBelow : List (List Run) → ℕ → List Group → Type 0
-AllowBelow ls leaf gs =
-    (g : ℕ) (group : Group) → slice_get gs g ≡ Some group
-    → (j : ℕ) → 8 * g ≤ j → j < 8 * g + 8 → j + 1 ≡ leaf → Allows group.summary (leaf_at ls j)
-
--- a free run at the end of the leaf at an index goes on in the next one
-abbrev pub GoesOn : List (List Run) → ℕ → Type 0
-GoesOn ls j = (i : ℕ) × (i + 1 ≡ length (leaf_at ls j)) × IsFreeRun (slice_get (leaf_at ls j) i)
-    × IsFreeRun (slice_get (leaf_at ls (j + 1)) 0)
-
--- The answer is a leaf, or the one below it, which it is where a free run goes on from there.
-abbrev pub IsFirstConcerned : List (List Run) → ℕ → ℕ → Type 0
-IsFirstConcerned ls leaf first = (first ≡ leaf - 1)
-    ⊎ ((first ≡ leaf) × ((j : ℕ) → j + 1 ≡ leaf → ¬ GoesOn ls j))

@@ -7,10 +7,8 @@ use Rattle.page_ranges.specs.Memory.{IsProperMemory}
 use Rattle.page_ranges.specs.MemoryMap.{memory_map}
 use Rattle.page_ranges.specs.Cursors.{IsBlockAt}
 use Rattle.page_ranges.specs.Runs.{pages_of, AreMaximalRuns, AreRuns}
-use Rattle.descriptor_table.specs.declared.groups.Group.{Group}
 use Rattle.descriptor_table.specs.Leaves.{leaf_at, run_before, runs_in, runs_with_first, AreLeaves, IsPlace}
 use Rattle.descriptor_table.specs.LeafSummaries.{MarksFree}
-use Rattle.descriptor_table.specs.Summaries.{AreGroups}
 use Rattle.descriptor_table.specs.Tables.{EndBy, IsBlockBelow}
 
 -- ---- runs by their ends
@@ -66,10 +64,9 @@ abbrev pub AreProperLeaves : List (List Run) → Type 0
 AreProperLeaves ls =
     AreLeaves ls × AreMaximalRuns (runs_in ls) × IsProperMemory (pages_of (runs_in ls))
 
--- leaves whose runs are maximal and make a proper memory, an index of one of them or their number,
--- and the groups of the leaves
-abbrev pub AreLeavesDownFrom : List (List Run) → List Group → ℕ → Type 0
-AreLeavesDownFrom ls gs leaf = AreProperLeaves ls × (leaf ≤ length ls) × AreGroups ls gs
+-- leaves whose runs are maximal and make a proper memory, and an index of one of them or their number
+abbrev pub AreLeavesDownFrom : List (List Run) → ℕ → Type 0
+AreLeavesDownFrom ls leaf = AreProperLeaves ls × (leaf ≤ length ls)
 
 -- the runs of the leaf at an index, with a bit for each free one, and a number of them
 abbrev pub AreRunsOfLeaf : List (List Run) → ℕ → List Run → ℕ → ℕ → Type 0

@@ -1,11 +1,9 @@
 -- Runs in leaves.
-use Rattle.std.specs.Prelude.{◌≡◌, ℕ, ◌+◌, ◌<◌, ◌≤◌, zero, suc, List, [], ◌∷◌, ◌++◌, Option, Some, None, length, map, take, drop, slice_get, slice_index_or, flat_map}
+use Rattle.std.specs.Prelude.{◌≡◌, ℕ, ◌<◌, ◌≤◌, zero, suc, List, [], ◌∷◌, Option, Some, None, length, drop, slice_get, slice_index_or, flat_map}
 use Rattle.std.specs.List.{AllByRecursion}
-use Rattle.page_ranges.specs.declared.ranges.PageRange.{PageRange}
 use Rattle.page_ranges.specs.declared.ranges.Run.{Run}
 use Rattle.page_ranges.specs.MemoryMap.{memory_map}
 use Rattle.page_ranges.specs.Runs.{pages_of}
-use Rattle.descriptor_table.specs.Tables.{IsTable}
 
 -- the first page of the first run
 abbrev pub first_page : List Run → ℕ
@@ -30,45 +28,6 @@ AreLeaves ls = AllByRecursion IsLeaf ls
 -- how many entries the map of runs has
 abbrev pub entry_count : List Run → ℕ
 entry_count rs = length (memory_map (pages_of rs))
-
--- How many entries begin in each of some leaves that come behind runs: by that many the map grows
--- with the leaf.
-abbrev pub BeginIn : List Run → List (List Run) → List ℕ → Type 0
-BeginIn rs [] [] = Unit {0}
-BeginIn rs [] (n ∷ ns) = ⊥
-BeginIn rs (l ∷ ls) [] = ⊥
-BeginIn rs (l ∷ ls) (n ∷ ns) =
-    (entry_count (rs ++ l) ≡ entry_count rs + n) × BeginIn (rs ++ l) ls ns
-
--- Runs give way to others: the map of the others, and of any runs that come behind, has a number of
--- entries less and a number more.
-abbrev pub GrowsBy : List Run → List Run → List Run → ℕ → ℕ → Type 0
-GrowsBy old new behind less more =
-    (m n : List Run) → behind ≡ m ++ n
-    → entry_count (new ++ m) + less ≡ entry_count (old ++ m) + more
-
--- A table in leaves, the number of entries of its map, how many of them begin in each leaf, and how
--- many runs each leaf has.
-pub record IsLeafTable (ls : List (List Run)) (count : ℕ) (ns ms : List ℕ) : Type 0 where
-  pub table : IsTable (runs_in ls) count
-  pub leaves : AreLeaves ls
-  pub begun : BeginIn [] ls ns
-  pub sizes : ms ≡ map length ls
-
--- The last of some runs. They are none only where there are no runs at all.
-pub record AreLast (rs last : List Run) : Type 0 where
-  pub others : List Run
-  pub parts : rs ≡ others ++ last
-  pub some : length last ≡ 0 → others ≡ []
-
--- Between two indices are all leaves with a run that shares a page with a range or touches it.
-pub record AreLeavesNear (ls : List (List Run)) (range : PageRange) (low high : ℕ) : Type 0 where
-  pub order : low ≤ high
-  pub bound : high ≤ length ls
-  pub below : AllByRecursion (λ r. r.range.first + r.range.pages < range.first)
-      (runs_in (take low ls))
-  pub above : AllByRecursion (λ r. range.first + range.pages < r.range.first)
-      (runs_in (drop high ls))
 
 -- ---- a walk along runs
 

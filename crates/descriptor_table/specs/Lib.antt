@@ -2,13 +2,11 @@ pub mod Tables
 pub mod PageTests
 pub mod FreeLists
 pub mod Leaves
-pub mod Tallies
 pub mod Wanting
 pub mod Summaries
 pub mod LeafChanges
-pub mod WholeRuns
-pub mod CutRuns
 pub mod LeafWalks
 pub mod LeafSummaries
-pub mod Reserves
 pub mod LeafBorders
+pub mod LeafRows
+pub mod Reserves

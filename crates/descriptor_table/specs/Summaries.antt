@@ -1,13 +1,11 @@
 -- What the free runs among some runs may be, in a few numbers.
-use Rattle.std.specs.Prelude.{◌≡◌, ℕ, ◌+◌, ◌*◌, ◌%◌, ◌⊎◌, ◌<◌, ◌≤◌, ◌^◌, Bool, true, false, ◌&&◌, ◌==◌, nat_le, max, List, length, Option, Some, None, if◌then◌else◌, slice_get, bit_or, [], map}
+use Rattle.std.specs.Prelude.{◌≡◌, ℕ, ◌+◌, ◌*◌, ◌%◌, ◌⊎◌, ◌<◌, ◌≤◌, ◌^◌, Bool, true, false, ◌&&◌, ◌==◌, nat_le, max, List, length, Option, Some, None, if◌then◌else◌, slice_get, bit_or}
 use Rattle.std.specs.Int.{bit_at}
 use Rattle.page_ranges.specs.declared.ranges.Run.{Run}
 use Rattle.page_ranges.specs.MemoryTypes.{conventional}
-use Rattle.descriptor_table.specs.declared.groups.Group.{Group}
 use Rattle.descriptor_table.specs.declared.summaries.Summary.{Summary}
 use Rattle.descriptor_table.specs.declared.wanted.Wanted.{Wanted}
-use Rattle.descriptor_table.specs.Leaves.{first_page, leaf_at, run_before, runs_in, AreLeaves, BeginIn}
-use Rattle.descriptor_table.specs.Tables.{IsTable}
+use Rattle.descriptor_table.specs.Leaves.{first_page, run_before}
 use Rattle.descriptor_table.specs.Wanting.{most_gain}
 
 -- the bit of a number
@@ -103,38 +101,3 @@ AreRunsOfNoUse w goes_on l low high =
 abbrev pub IsLeafOfNoUse : Wanted → Bool → List Run → Type 0
 IsLeafOfNoUse w goes_on l =
     (w.limit ≤ first_page l) ⊎ AreRunsOfNoUse w goes_on l 0 (length l)
-
--- ---- groups of leaves
-
--- A summary allows each free run of the leaf at an index; any request, if a free run at its end is
--- followed by one in the next leaf.
-pub record AllowsLeaf (s : Summary) (ls : List (List Run)) (j : ℕ) : Type 0 where
-  pub runs : Allows s (leaf_at ls j)
-  pub joins : (i : ℕ) → i + 1 ≡ length (leaf_at ls j) → IsFreeRun (slice_get (leaf_at ls j) i)
-      → IsFreeRun (slice_get (leaf_at ls (j + 1)) 0) → AllowsAll s
-
--- each group's summary allows the eight leaves of the group, but for some between two indices
-abbrev pub AreGroupsBut : List (List Run) → List Group → ℕ → ℕ → Type 0
-AreGroupsBut ls gs low high =
-    (g : ℕ) (group : Group) → slice_get gs g ≡ Some group
-    → (j : ℕ) → 8 * g ≤ j → j < 8 * g + 8 → (j < low) ⊎ (high ≤ j)
-    → AllowsLeaf group.summary ls j
-
--- each group's summary allows the eight leaves of the group
-abbrev pub AreGroups : List (List Run) → List Group → Type 0
-AreGroups ls gs = AreGroupsBut ls gs 0 0
-
--- A table in leaves with all that is kept of them (`IsLeafTable`), and its groups.
-pub record IsGroupedTable (ls : List (List Run)) (count : ℕ) (ns ms : List ℕ)
-    (gs : List Group) : Type 0 where
-  pub table : IsTable (runs_in ls) count
-  pub leaves : AreLeaves ls
-  pub begun : BeginIn [] ls ns
-  pub sizes : ms ≡ map length ls
-  pub groups : AreGroups ls gs
-
--- Leaves before an index stay as they are, and so do those from another one on if there are as many
--- leaves as before.
-pub record KeepsLeaves (old new : List (List Run)) (low high : ℕ) : Type 0 where
-  pub before : (j : ℕ) → j < low → leaf_at new j ≡ leaf_at old j
-  pub behind : length new ≡ length old → (j : ℕ) → high ≤ j → leaf_at new j ≡ leaf_at old j

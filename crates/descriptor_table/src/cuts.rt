@@ -1,15 +1,13 @@
 //! Cutting and joining runs.
-ghost use Rattle.std.specs.Prelude.{◌≡◌, ◌+◌, ◌-◌, ◌<◌, ◌≤◌, ◌^◌, ◌++◌, ◌∷◌, [], List, length, false, vec_capacity, IsTrue, IfSome, OnOk, OnErr};
+ghost use Rattle.std.specs.Prelude.{◌≡◌, ◌+◌, ◌-◌, ◌<◌, ◌≤◌, ◌^◌, ◌++◌, ◌∷◌, [], List, length, false, vec_capacity, IsTrue, OnOk, OnErr};
 ghost use Rattle.page_ranges.specs.declared.ranges.Run.{Run};
-ghost use Rattle.page_ranges.specs.MemoryTypes.{attributes_as, page_count};
-ghost use Rattle.page_ranges.specs.Memory.{row, retyped};
+ghost use Rattle.page_ranges.specs.MemoryTypes.{page_count};
+ghost use Rattle.page_ranges.specs.Memory.{retyped};
 ghost use Rattle.page_ranges.specs.Runs.{page_in, pages_of, should_be_one_run, AreRuns, AreMaximalRuns};
-ghost use Rattle.descriptor_table.specs.Leaves.{runs_in};
-ghost use Rattle.descriptor_table.specs.LeafChanges.{AppendsPart, AppendsRetyped, BeginBehind, EndsWith, MovesEdge, RetypesRuns};
+ghost use Rattle.descriptor_table.specs.LeafChanges.{AppendsPart, AppendsRetyped, BeginBehind, EndsWith};
 ghost use Rattle.descriptor_table.specs.Reserves.{cut_count};
 ghost use Rattle.descriptor_table.specs.Tables.{EndBy, AreMaximalUpTo, PutsBehind};
 
-use crate::leaves::Leaf;
 use page_ranges::{MemoryType, Owner, PageRange, Run};
 use std::alloc::{AllocError, Allocator};
 
@@ -23,57 +21,6 @@ pub(crate) fn should_be_one(run: &Run, next: &Run) -> bool
         && run.mtype == next.mtype
         && run.attributes == next.attributes
         && run.owner == next.owner
-}
-
-/// Whether a run has the type, the attributes and the owner of another run's pages once these are retyped.
-#[inline(always)]
-fn is_like_retyped(run: &Run, other: &Run, mtype: MemoryType, owner: Owner) -> bool
-    ensures mtype { IsTrue result → run.now.mtype ≡ mtype }
-    ensures attributes { IsTrue result
-        → run.now.attributes ≡ attributes_as mtype other.now.attributes }
-    ensures owner { IsTrue result → run.now.owner ≡ owner }
-{
-    run.mtype == mtype
-        && run.attributes == mtype.attributes_as(other.attributes)
-        && run.owner == owner
-}
-
-/// The page at which two runs meet once the pages of a range, at the end of one of them, become part of the
-/// other. `None` where the range lies elsewhere or is all of a run, or where the other run is not like it.
-#[inline(always)]
-pub(crate) fn moved_edge(
-    runs: &[Run],
-    range: PageRange,
-    mtype: MemoryType,
-    owner: Owner,
-) -> Option<u64>
-    requires order { AreMaximalRuns runs.now }
-    requires ends { EndBy page_count runs.now }
-    requires some { 0 < range.pages }
-    requires within { range.first + range.pages ≤ page_count }
-    ensures { IfSome result (MovesEdge range mtype owner runs.now) }
-{
-    if runs.len() != 2 {
-        return None;
-    }
-    let (below, above) = (&runs[0], &runs[1]);
-    let edge = above.range.first;
-    if below.range.first + below.range.pages != edge {
-        return None;
-    }
-    if range.first == edge {
-        if range.pages < above.range.pages && is_like_retyped(below, above, mtype, owner) {
-            return Some(edge + range.pages);
-        }
-        return None;
-    }
-    if range.first + range.pages != edge {
-        return None;
-    }
-    if below.range.first < range.first && is_like_retyped(above, below, mtype, owner) {
-        return Some(range.first);
-    }
-    None
 }
 
 /// Makes the last of a row of runs longer by a run behind it where the two should be one, and returns
@@ -216,48 +163,4 @@ pub(crate) fn push_behind<A: Allocator>(
         }
     }
     Ok(())
-}
-
-/// Puts into an empty list the runs in which the pages of a range have a type and an owner.
-pub(crate) fn push_retyped<A: Allocator>(
-    parts: &mut Vec<Run, A>,
-    runs: &[Run],
-    range: PageRange,
-    mtype: MemoryType,
-    owner: Owner,
-) -> Result<(), AllocError>
-    requires empty { parts.old.items ≡ [] }
-    requires runs { AreRuns runs.now }
-    requires ends { EndBy page_count runs.now }
-    requires within { range.first + range.pages ≤ page_count }
-    ensures pages { OnOk result (RetypesRuns range mtype owner runs.now parts.new.items) }
-    ensures order { OnOk result (AreMaximalRuns parts.new.items) }
-{
-    push_behind(parts, runs, range, mtype, owner)
-}
-
-/// Puts into an empty list, which has room for them, the runs of leaves in which the pages of a range have a
-/// type and an owner.
-pub(crate) fn push_leaves<A: Allocator + Copy>(
-    parts: &mut Vec<Run, A>,
-    leaves: &[Leaf<A>],
-    range: PageRange,
-    mtype: MemoryType,
-    owner: Owner,
-)
-    requires empty { parts.old.items ≡ [] }
-    requires runs { AreRuns (runs_in leaves.now) }
-    requires ends { EndBy page_count (runs_in leaves.now) }
-    requires within { range.first + range.pages ≤ page_count }
-    requires room { length (runs_in leaves.now) + 2 ≤ vec_capacity parts.old }
-    ensures pages { RetypesRuns range mtype owner (runs_in leaves.now) parts.new.items }
-    ensures order { AreMaximalRuns parts.new.items }
-    ensures few { length parts.new.items ≤ length (runs_in leaves.now) + 2 }
-    ensures capacity { vec_capacity parts.old ≤ vec_capacity parts.new }
-{
-    for leaf in leaves {
-        let Ok(()) = push_behind(parts, leaf.runs(), range, mtype, owner) else {
-            unreachable!();
-        };
-    }
 }

@@ -8,7 +8,6 @@ ghost use Rattle.descriptor_table.specs.Leaves.{runs_in, runs_with_first, entry_
 ghost use Rattle.descriptor_table.specs.LeafWalks.{entry_up_to, map_from, map_of_runs};
 ghost use Rattle.descriptor_table.specs.Tables.{entry_of, EndBy};
 
-use crate::entry_starts::runs_before;
 use crate::leaves::Leaf;
 use crate::walks::Walk;
 use page_ranges::{Descriptor, Run};
@@ -91,23 +90,6 @@ impl<'a, A: Allocator + Copy> MapEntries<'a, A> {
         let first = walk.next();
         MapEntries { first, walk }
     }
-
-    /// The entries that begin in the leaves from an index on.
-    pub(crate) fn from_leaf(leaves: &'a [Leaf<A>], index: usize) -> MapEntries<'a, A>
-        requires leaves { AreLeaves leaves.now }
-        requires runs { AreRuns (runs_in leaves.now) }
-        requires ends { EndBy page_count (runs_in leaves.now) }
-        requires bound { index ≤ length leaves.now }
-        ensures { result ≡ drop (entry_count (runs_in (take index leaves.now)))
-            (memory_map (pages_of (runs_in leaves.now))) }
-    {
-        let Some(last) = runs_before(leaves, index).last() else {
-            return MapEntries::new(&leaves[index..]);
-        };
-        let mut walk = Walk::new(&leaves[index..]);
-        let (_, first) = end_of_entry(last, &mut walk);
-        MapEntries { first, walk }
-    }
 }
 
 /// Passes the runs that go on in a run's entry, and the one after them. Answers the page behind the
@@ -143,7 +125,7 @@ fn next_apart<'a, A: Allocator + Copy>(run: &Run, walk: &mut Walk<'a, A>) -> Opt
     requires { run.now.range.first + run.now.range.pages < 2 ^ 64 }
     ensures passed { IfSome result (λ next. walk.old ≡ next.now ∷ walk.new) }
     ensures apart { IfSome result
-        (λ next. should_be_one (entry_of run.now) (entry_of next.now) ≡ false) }
+        (λ r. should_be_one (entry_of run.now) (entry_of r.now) ≡ false) }
     ensures none { result ≡ None → walk.new ≡ walk.old }
 {
     let (next, passed) = walk.next_in_leaf()?;

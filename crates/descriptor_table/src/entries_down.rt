@@ -1,15 +1,14 @@
 //! The conventional entries of a memory map from the highest down.
-ghost use Rattle.std.specs.Prelude.{◌≡◌, ◌+◌, ◌-◌, ◌<◌, ◌≤◌, length, true, false};
+ghost use Rattle.std.specs.Prelude.{◌≡◌, ◌<◌, ◌≤◌, length, false};
 ghost use Rattle.page_ranges.specs.Memory.{IsProperMemory};
 ghost use Rattle.page_ranges.specs.Runs.{pages_of, AreMaximalRuns};
 ghost use Rattle.descriptor_table.specs.Leaves.{leaf_at, runs_in, AreLeaves};
 ghost use Rattle.descriptor_table.specs.LeafWalks.{free_in};
-ghost use Rattle.descriptor_table.specs.Summaries.{AreGroups, BeginsFree, IsLeafOfNoUse};
-ghost use Rattle.descriptor_table.specs.Wanting.{AreOfNoUse, YieldsLast, YieldsLeaf, YieldsLeafEntries};
+ghost use Rattle.descriptor_table.specs.Summaries.{BeginsFree, IsLeafOfNoUse};
+ghost use Rattle.descriptor_table.specs.Wanting.{YieldsLast, YieldsLeaf, YieldsLeafEntries};
 
 use crate::free_marks::last_mark;
 use crate::free_runs::FreeRun;
-use crate::groups::{GROUP_SIZE, Group, begins_free, group_at, leaf_begins_free};
 use crate::leaves::Leaf;
 use crate::wanted::Wanted;
 use page_ranges::{MemoryType, Run};
@@ -18,6 +17,14 @@ use std::marker::Model;
 
 /// No placement gains more.
 const MAX_GAIN: u64 = 3;
+
+/// Whether the leaf at an index begins with a free run.
+#[inline(always)]
+pub(crate) fn begins_free<A: Allocator + Copy>(leaves: &[Leaf<A>], leaf: usize) -> bool
+    ensures { BeginsFree result (leaf_at leaves.now leaf) }
+{
+    leaf < leaves.len() && leaves[leaf].begins_free()
+}
 
 /// Whether a leaf may be of use. `goes_on` says whether a free run follows it.
 #[inline(always)]
@@ -33,88 +40,26 @@ fn may_hold<A: Allocator + Copy>(
     leaves[leaf].may_hold(wanted, goes_on)
 }
 
-/// Whether a group ends before a leaf, none of whose leaves is of use by what is known of the group.
-#[inline(always)]
-fn ends_group_of_no_use<A: Allocator + Copy>(
-    leaves: &[Leaf<A>],
-    groups: &[Group],
-    leaf: usize,
-    wanted: &Wanted,
-) -> bool
-    requires leaves { AreLeaves leaves.now }
-    requires maximal { AreMaximalRuns (runs_in leaves.now) }
-    requires proper { IsProperMemory (pages_of (runs_in leaves.now)) }
-    requires groups { AreGroups leaves.now groups.now }
-    requires leaf { (0 < leaf) × (leaf ≤ length leaves.now) }
-    requires gain { wanted.now.gain ≤ 3 }
-    ensures { result ≡ true → (8 ≤ leaf) × AreOfNoUse wanted.now leaves.now (leaf - 8) leaf }
-{
-    if leaf % GROUP_SIZE != 0 {
-        return false;
-    }
-    let Some(group) = group_at(groups, leaf / GROUP_SIZE - 1) else {
-        return false;
-    };
-    if group.may_hold(wanted) {
-        return leaves[leaf - GROUP_SIZE].first() >= wanted.limit;
-    }
-    true
-}
-
-/// Leaves before an index are of no use from the index on that is returned; the same one, if the leaf
-/// before it may be of use. `goes_on` says whether the leaf at the index begins with a free run.
-#[inline(always)]
-fn of_no_use_from<A: Allocator + Copy>(
-    leaves: &[Leaf<A>],
-    groups: &[Group],
-    leaf: usize,
-    wanted: &Wanted,
-    goes_on: bool,
-) -> usize
-    requires leaves { AreLeaves leaves.now }
-    requires maximal { AreMaximalRuns (runs_in leaves.now) }
-    requires proper { IsProperMemory (pages_of (runs_in leaves.now)) }
-    requires groups { AreGroups leaves.now groups.now }
-    requires leaf { (0 < leaf) × (leaf ≤ length leaves.now) }
-    requires begins { BeginsFree goes_on (leaf_at leaves.now leaf) }
-    requires gain { wanted.now.gain ≤ 3 }
-    ensures bound { result ≤ leaf }
-    ensures none { AreOfNoUse wanted.now leaves.now result leaf }
-{
-    if ends_group_of_no_use(leaves, groups, leaf, wanted) {
-        return leaf - GROUP_SIZE;
-    }
-    if may_hold(leaves, leaf - 1, wanted, goes_on) {
-        return leaf;
-    }
-    leaf - 1
-}
-
 /// The highest leaf before an index that may be of use; `None` where none is.
 #[inline(always)]
 fn leaf_of_use<A: Allocator + Copy>(
     leaves: &[Leaf<A>],
-    groups: &[Group],
     high: usize,
     wanted: &Wanted,
 ) -> Option<usize>
     requires leaves { AreLeaves leaves.now }
     requires maximal { AreMaximalRuns (runs_in leaves.now) }
     requires proper { IsProperMemory (pages_of (runs_in leaves.now)) }
-    requires groups { AreGroups leaves.now groups.now }
     requires high { high ≤ length leaves.now }
     requires gain { wanted.now.gain ≤ 3 }
     ensures { YieldsLeaf wanted.now leaves.now high result }
 {
-    let mut leaf = high;
-    let mut goes_on = begins_free(leaves, leaf);
-    while leaf > 0 {
-        let low = of_no_use_from(leaves, groups, leaf, wanted, goes_on);
-        if low == leaf {
-            return Some(leaf - 1);
+    let mut goes_on = begins_free(leaves, high);
+    for leaf in (0..high).rev() {
+        if may_hold(leaves, leaf, wanted, goes_on) {
+            return Some(leaf);
         }
-        leaf = low;
-        goes_on = leaf_begins_free(leaves, leaf);
+        goes_on = leaves[leaf].begins_free();
     }
     None
 }
@@ -123,7 +68,6 @@ fn leaf_of_use<A: Allocator + Copy>(
 #[derive(Drop)]
 pub struct EntriesDown<'a, A: Allocator = Global> {
     leaves: &'a [Leaf<A>],
-    groups: &'a [Group],
     // The leaves before this one are still to come.
     leaf: usize,
 }
@@ -144,21 +88,19 @@ impl<'a, A: Allocator> Model for EntriesDown<'a, A> {
           leaves = e.leaf;
         } };
 
-    ghost invariant = { λ e. AreLeavesDownFrom e.leaves.now e.groups.now e.leaf };
+    ghost invariant = { λ e. AreLeavesDownFrom e.leaves.now e.leaf };
 }
 
 impl<'a, A: Allocator + Copy> EntriesDown<'a, A> {
-    pub(crate) fn new(leaves: &'a [Leaf<A>], groups: &'a [Group]) -> EntriesDown<'a, A>
+    pub(crate) fn new(leaves: &'a [Leaf<A>]) -> EntriesDown<'a, A>
         requires leaves { AreLeaves leaves.now }
         requires maximal { AreMaximalRuns (runs_in leaves.now) }
         requires proper { IsProperMemory (pages_of (runs_in leaves.now)) }
-        requires groups { AreGroups leaves.now groups.now }
         ensures memory { result.memory ≡ pages_of (runs_in leaves.now) }
         ensures entries { result.entries ≡ free_in (runs_in leaves.now) }
     {
         EntriesDown {
             leaves,
-            groups,
             leaf: leaves.len(),
         }
     }
@@ -172,7 +114,7 @@ impl<'a, A: Allocator + Copy> EntriesDown<'a, A> {
         if wanted.gain > MAX_GAIN {
             return None;
         }
-        let leaf = leaf_of_use(self.leaves, self.groups, self.leaf, wanted)?;
+        let leaf = leaf_of_use(self.leaves, self.leaf, wanted)?;
         self.leaf = leaf;
         let runs = self.leaves[leaf].runs();
         Some(LeafDown {

@@ -1,5 +1,5 @@
 //! Finding a leaf by a page or by an index.
-ghost use Rattle.std.specs.Prelude.{◌≡◌, ◌↔◌, ◌+◌, ◌<◌, ◌≤◌, length, map, nat_lt, nat_le, Contains, IfSome, IsTrue, slice_get};
+ghost use Rattle.std.specs.Prelude.{◌≡◌, ◌↔◌, ◌+◌, ◌<◌, ◌≤◌, length, nat_le, Contains, IfSome, IsTrue, slice_get};
 ghost use Rattle.std.specs.List.{AllWithin};
 ghost use Rattle.std.specs.Option.{option_map};
 ghost use Rattle.page_ranges.specs.MemoryTypes.{page_count};
@@ -11,74 +11,8 @@ ghost use Rattle.descriptor_table.specs.Tables.{EndBy, IsHolder, ShowsPage};
 
 use crate::leaves::Leaf;
 use crate::searches::{PageTest, count_beginning_by, run_holding};
-use crate::tallies::Tally;
 use page_ranges::{PageRange, Run};
 use std::alloc::Allocator;
-
-/// How many leaves begin below a page, where the leaf at an index has the runs there.
-#[inline(always)]
-fn likely_leaf_count<A: Allocator + Copy>(
-    leaves: &[Leaf<A>],
-    page: u64,
-    likely: usize,
-) -> Option<usize>
-    requires leaves { AreLeaves leaves.now }
-    requires runs { AreRuns (runs_in leaves.now) }
-    ensures bound { IfSome result (λ count. count ≤ length leaves.now) }
-    ensures below { IfSome result
-        (λ count. AllWithin (λ l. first_page l < page) leaves.now 0 count) }
-    ensures above { IfSome result
-        (λ count. AllWithin (λ l. page ≤ first_page l) leaves.now count (length leaves.now)) }
-{
-    if likely >= leaves.len() {
-        return None;
-    }
-    if page <= leaves[likely].first() {
-        return None;
-    }
-    let next = likely + 1;
-    if next == leaves.len() {
-        return Some(next);
-    }
-    if page <= leaves[next].first() {
-        return Some(next);
-    }
-    None
-}
-
-/// How many leaves begin below a page; they come first. The leaf that has the runs there is likely at an
-/// index.
-pub(crate) fn count_leaves_below<A: Allocator + Copy>(
-    leaves: &[Leaf<A>],
-    page: u64,
-    likely: usize,
-) -> usize
-    requires leaves { AreLeaves leaves.now }
-    requires runs { AreRuns (runs_in leaves.now) }
-    ensures bound { result ≤ length leaves.now }
-    ensures below { AllWithin (λ l. first_page l < page) leaves.now 0 result }
-    ensures above { AllWithin (λ l. page ≤ first_page l) leaves.now result (length leaves.now) }
-{
-    match likely_leaf_count(leaves, page, likely) {
-        Some(count) => count,
-        None => halved_leaf_count(leaves, page),
-    }
-}
-
-/// How many leaves begin below a page, found by halving; they come first.
-fn halved_leaf_count<A: Allocator + Copy>(leaves: &[Leaf<A>], page: u64) -> usize
-    requires leaves { AreLeaves leaves.now }
-    requires runs { AreRuns (runs_in leaves.now) }
-    ensures bound { result ≤ length leaves.now }
-    ensures below { AllWithin (λ l. first_page l < page) leaves.now 0 result }
-    ensures above { AllWithin (λ l. page ≤ first_page l) leaves.now result (length leaves.now) }
-{
-    leaves.partition_point(
-        |leaf: &Leaf<A>| -> bool
-            ensures { result ≡ nat_lt (first_page leaf.now) page }
-        { leaf.first() < page },
-    )
-}
 
 /// How many leaves begin at a page or below it; they come first.
 #[inline(never)]
@@ -198,18 +132,17 @@ pub(crate) fn all_in_range<A: Allocator + Copy>(
     }
 }
 
-/// The run at an index, by how many runs each leaf has.
-pub(crate) fn run_at_index<A: Allocator + Copy>(
-    leaves: &[Leaf<A>],
-    sizes: &Tally<A>,
-    index: usize,
-) -> Option<Run>
-    requires { sizes.now.items ≡ map length leaves.now }
+/// The run at an index.
+pub(crate) fn run_at_index<A: Allocator + Copy>(leaves: &[Leaf<A>], index: usize) -> Option<Run>
     ensures { result ≡ slice_get (runs_in leaves.now) index }
 {
-    let (count, left) = sizes.find(index);
-    if count == leaves.len() {
-        return None;
+    let mut left = index;
+    for leaf in leaves {
+        let runs = leaf.runs();
+        if left < runs.len() {
+            return Some(runs[left]);
+        }
+        left -= runs.len();
     }
-    Some(leaves[count].runs()[left])
+    None
 }

@@ -1,33 +1,9 @@
 //! Runs in an array of fixed capacity.
 ghost use Rattle.std.specs.Prelude.{◌≡◌, ◌+◌, ◌-◌, ◌≤◌, ◌++◌, length, take, drop};
 ghost use Rattle.arrayvec.specs.ArrayVec.{array_vec_len};
-ghost use Rattle.descriptor_table.specs.LeafChanges.{IsEdgeOf, with_edge};
 
 use arrayvec::ArrayVec;
-use page_ranges::{PageRange, Run};
-
-/// Moves the page at which two runs meet.
-fn put_edge(runs: &mut [Run], edge: u64)
-    requires { IsEdgeOf edge runs.old }
-    ensures { runs.new ≡ with_edge edge runs.old }
-{
-    let end = runs[1].range.first + runs[1].range.pages;
-    runs[0].range.pages = edge - runs[0].range.first;
-    runs[1].range = PageRange {
-        first: edge,
-        pages: end - edge,
-    };
-}
-
-/// Moves the page at which the run at an index and the next one meet.
-pub(crate) fn move_edge<const N: usize>(runs: &mut ArrayVec<Run, N>, low: usize, edge: u64)
-    requires bound { low + 2 ≤ array_vec_len runs.old }
-    requires edge { IsEdgeOf edge (take 2 (drop low runs.old.items)) }
-    ensures { runs.new.items ≡ take low runs.old.items
-        ++ (with_edge edge (take 2 (drop low runs.old.items)) ++ drop (low + 2) runs.old.items) }
-{
-    put_edge(&mut runs.as_mut_slice()[low..low + 2], edge);
-}
+use page_ranges::Run;
 
 /// Replaces some runs by others, where they fit.
 pub(crate) fn replace_runs<const N: usize>(

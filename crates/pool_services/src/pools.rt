@@ -165,8 +165,8 @@ impl<A: Allocator + Copy> Pools<A> {
         let Some(region) = self.regions.region(self.alloc, page, pages) else {
             return Err(Status::OutOfResources);
         };
-        // That the book's memory is proper is known of its table's length.
-        let _ = book.table().len();
+        // That the book's memory is proper is known of the count of its map's entries.
+        let _ = book.table().descriptors();
         let Ok(placed) = book.place_for_pool(chosen) else {
             return Err(Status::OutOfResources);
         };

@@ -1,33 +1,30 @@
 //! A million drawn changes of a table of more than 20,000 runs, against a plain list of pages.
 ghost use Rattle.std.specs.Prelude.{◌≡◌};
-ghost use Rattle.page_ranges.specs.Memory.{IsProperMemory};
-ghost use Rattle.page_ranges.specs.Runs.{pages_of, AreRuns};
+ghost use Rattle.page_ranges.specs.declared.ranges.Owner.TheVariants.{Given};
+ghost use Rattle.page_ranges.specs.MemoryTypes.{conventional};
 
-use super::table_changes::{
-    are_present, assert_table, change_list, drawn_kind, goes_on, listed, next_draw, run,
+use super::page_lists::{
+    are_present, assert_table, change_list, drawn_kind, goes_on, most_leaves, next_draw, run,
+    table_of,
 };
 use descriptor_table::RunTable;
 use page_ranges::{MemoryType, Owner, PageRange, Run};
+use refusing_memory::Refusing;
+use std::alloc::{Allocator, Global};
 use std::process::Abort;
-
-fn wide_machine() -> [Run; 1]
-    ensures runs { AreRuns result }
-    ensures proper { IsProperMemory (pages_of result) }
-{
-    [run(0, 65_536, 7, 0xf)]
-}
 
 // How many pages the machine has, a power of two.
 const MACHINE_PAGES: u64 = 65_536;
 
-// All pages of the machine: the page of a number is at that index. How many runs and map entries they make, and how many
-// changes of one to three pages gave one of these another type or owner.
+// All pages of the machine: the page of a number is at that index. How many runs and map entries they make, how many
+// changes gave a page another type or owner, and how many were refused memory.
 #[derive(Drop)]
 struct Pages {
     list: Vec<Run>,
     runs: usize,
     entries: usize,
     changed: usize,
+    refused: usize,
 }
 
 // Whether a run or an entry begins with the page at an index.
@@ -72,7 +69,7 @@ fn change_pages(pages: &mut Pages, range: PageRange, number: u32, owner: Owner) 
         .len()
         .min(range.first.saturating_add(range.pages) as usize);
     let first = end.min(range.first as usize);
-    if range.pages <= 3 && has_others(list, range, number, owner) {
+    if has_others(list, range, number, owner) {
         pages.changed = pages.changed.saturating_add(1);
     }
     change_list(&mut list[first..end], range, number, owner);
@@ -109,10 +106,15 @@ fn run_around(list: &[Run], page: u64) -> Option<Run> {
     Some(found)
 }
 
-// Asserts how many runs and entries the table has, and which runs hold the pages below and at a number.
-fn assert_edge(rt: &impl Abort, table: &RunTable, pages: &Pages, page: u64) {
+// Asserts how many leaves and entries the table has, and which runs hold the pages below and at a number.
+fn assert_edge<A: Allocator + Copy>(
+    rt: &impl Abort,
+    table: &RunTable<A>,
+    pages: &Pages,
+    page: u64,
+) {
     let list = pages.list.as_slice();
-    assert!(rt; table.len() == pages.runs);
+    assert!(rt; table.leaves().len() <= most_leaves(pages.runs));
     assert!(rt; table.descriptors() == pages.entries);
     let (below, above) = table.edge(page);
     assert!(rt; above == run_around(list, page));
@@ -134,78 +136,102 @@ fn drawn_range(draw: u64) -> PageRange {
     }
 }
 
-// Whether AllocatePages placed all pages of a range.
-fn are_placed(list: &[Run], range: PageRange) -> bool {
+// Whether all pages of a range are free, and whether AllocatePages placed them all.
+fn kinds_in(list: &[Run], range: PageRange) -> (bool, bool) {
+    let mut are_free = true;
+    let mut are_placed = true;
     for page in range.first..range.first.saturating_add(range.pages) {
-        match list.get(page as usize) {
-            Some(run) if run.owner == Owner::Pages => {}
-            _ => return false,
-        }
+        let Some(run) = list.get(page as usize) else {
+            return (false, false);
+        };
+        are_free = are_free && run.mtype.number() == 7;
+        are_placed = are_placed && run.owner == Owner::Pages;
     }
-    true
+    (are_free, are_placed)
 }
 
-// Asserts that the table finds whether AllocatePages placed a range. It then keeps where the range begins.
-fn assert_found(rt: &impl Abort, table: &mut RunTable, pages: &Pages, range: PageRange) {
-    let wanted = are_placed(pages.list.as_slice(), range);
-    assert!(rt; table.find_owned(range, Owner::Pages) == wanted);
+// Asserts that the table finds whether a range is free, and whether AllocatePages placed it. It then keeps where the range
+// begins.
+fn assert_found<A: Allocator + Copy>(
+    rt: &impl Abort,
+    table: &mut RunTable<A>,
+    pages: &Pages,
+    range: PageRange,
+) {
+    let (are_free, are_placed) = kinds_in(pages.list.as_slice(), range);
+    assert!(rt; table.all_conventional(range) == are_free);
+    assert!(rt; table.all_owned(range, Owner::Pages) == are_placed);
+    let mut cursor = table.cursor();
+    assert!(rt; cursor.run_at(range.first / 2) == table.run_at(range.first / 2));
+    assert!(rt; cursor.run_at(range.first) == run_around(pages.list.as_slice(), range.first));
+    assert!(rt; table.find_owned(range, Owner::Pages) == are_placed);
 }
 
-// Changes a drawn range of the table and of the list. The table has most often been asked for the range, or for another
-// one, since the last change.
-fn change_drawn(rt: &impl Abort, table: &mut RunTable, pages: &mut Pages, draw: u64) {
+// Changes a range of the table, for whose allocations a number is refused. Returns whether this was so; the table is then
+// as it was.
+fn is_refused<A: Allocator + Copy>(
+    rt: &impl Abort,
+    heap: &Refusing<Global>,
+    table: &mut RunTable<A>,
+    range: PageRange,
+    kind: (u32, Owner),
+    number: u64,
+) -> bool
+    requires { kind.0 ≡ conventional → kind.1 ≡ Given }
+{
+    assert!(rt; are_present(table, range));
+    heap.refuse(number);
+    let answer = table.retype(range, MemoryType::new(kind.0), kind.1);
+    heap.refuse(0);
+    answer.is_err()
+}
+
+// Changes a drawn range of the table and of the list, where memory is refused once more without it. The table has most
+// often been asked for the range, or for another one, since the last change.
+fn change_drawn<A: Allocator + Copy>(
+    rt: &impl Abort,
+    heap: &Refusing<Global>,
+    table: &mut RunTable<A>,
+    pages: &mut Pages,
+    draw: u64,
+) {
     let range = drawn_range(draw);
-    let (number, owner) = drawn_kind(draw >> 50);
+    let kind = drawn_kind(draw >> 50);
     match draw >> 16 & 3 {
         0 => {}
         1 => assert_found(rt, table, pages, drawn_range(draw.rotate_left(23))),
         _ => assert_found(rt, table, pages, range),
     }
-    assert!(rt; are_present(table, range));
-    table
-        .retype(range, MemoryType::new(number), owner)
-        .expect(rt, "memory");
-    change_pages(pages, range, number, owner);
+    if is_refused(rt, heap, table, range, kind, draw >> 40 & 3) {
+        pages.refused = pages.refused.saturating_add(1);
+        assert_edge(rt, table, pages, range.first);
+        assert!(rt; !is_refused(rt, heap, table, range, kind, 0));
+    }
+    change_pages(pages, range, kind.0, kind.1);
     assert_edge(rt, table, pages, range.first);
     assert_edge(rt, table, pages, range.first.saturating_add(range.pages));
 }
 
-// Makes drawn changes until a number of those of one to three pages have given one of these another type or owner, as
-// four in five do. Returns the last draw.
-fn change_until(
-    rt: &impl Abort,
-    table: &mut RunTable,
-    pages: &mut Pages,
-    wanted: usize,
-    before: u64,
-) -> u64 {
-    let mut draw = before;
-    pages.changed = 0;
-    for _change in 0..wanted.saturating_mul(2) {
-        if pages.changed == wanted {
-            return draw;
-        }
-        draw = next_draw(draw);
-        change_drawn(rt, table, pages, draw);
-    }
-    panic!(rt; "few changes give a page another type or owner");
-}
-
-// Before the million changes are made, 100,000 bring the table to its many runs.
+// The first of eleven parts brings the table to its many runs. Of the changes four in five change a page.
 #[test]
 fn a_million_changes_are_those_of_the_pages(rt: HostRuntime) {
-    let mut table = RunTable::from_runs(rt.alloc(), &wide_machine()).expect(&rt, "memory");
-    let list = listed(&rt, &wide_machine());
+    let heap = Refusing::new(rt.alloc());
+    let (mut table, list) = table_of(&rt, &heap, &[run(0, MACHINE_PAGES, 7, 0xf)]);
     let mut pages = Pages {
         list,
         runs: 1,
         entries: 1,
         changed: 0,
+        refused: 0,
     };
     let mut draw = 3;
     for _part in 0..11 {
-        draw = change_until(&rt, &mut table, &mut pages, 100_000, draw);
+        for _change in 0..125_000 {
+            draw = next_draw(draw);
+            change_drawn(&rt, &heap, &mut table, &mut pages, draw);
+        }
         assert_table(&rt, &table, pages.list.as_slice());
-        assert!(rt; table.len() > 20_000);
+        assert!(rt; table.len() == pages.runs && pages.runs > 20_000);
     }
+    assert!(rt; pages.changed > 1_000_000 && pages.refused > 100);
 }

@@ -1,4 +1,3 @@
-use Rattle.std.proofs.Common.{◌≤◌}
 use Rattle.descriptor_table.specs.Leaves.{leaf_at}
 use Rattle.descriptor_table.specs.Summaries.{BeginsFree}
 use Rattle.descriptor_table.specs.Wanting.{AreOfNoUse}
@@ -7,10 +6,6 @@ use Rattle.descriptor_table.proofs.entries_down.leaf_of_use.Given as goal
 -- the leaves from here on are of no use
 abbrev pub invariant-loop-leaf : goal.invariant-loop-leaf
 invariant-loop-leaf g l = record {
-  bound : l.leaf ≤ l.high;
   begins : BeginsFree l.goes_on (leaf_at l.leaves l.leaf);
   passed : AreOfNoUse l.wanted l.leaves l.leaf l.high;
 }
-
-abbrev pub decreases-loop-leaf : goal.decreases-loop-leaf
-decreases-loop-leaf g l = l.leaf

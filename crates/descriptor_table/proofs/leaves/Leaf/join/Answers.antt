@@ -1,25 +1,13 @@
-use Rattle.std.proofs.Common.{length, ap, sym, subst, ◌∙◌, arith}
-use Rattle.descriptor_table.specs.LeafBorders.{IsLastApart}
-use Rattle.descriptor_table.proofs.LeafMoves.{apart_from_none, border_apart, joined_order, joined_pages, joined_runs, last_end, pages_fit, some_last}
+use Rattle.std.proofs.Common.{length, ap, sym, ◌∙◌, arith}
+use Rattle.descriptor_table.proofs.LeafMoves.{border_apart, joined_ends, joined_order, joined_pages, last_end, pages_fit, some_last}
 use Rattle.descriptor_table.proofs.Places.{none_next}
 use Rattle.descriptor_table.proofs.leaves.Leaf.join.Goals as goal
-
-pub returns-in_default-first-clause-apart : goal.returns-in_default-first-clause-apart
-returns-in_default-first-clause-apart g c = λ _.
-    let none = sym (rw c.runs-2.ensures at c.in_default-first.ensures.value) in
-    subst (IsLastApart c.args.self.now) (sym (none_next c.args.next.now none)) (apart_from_none c.args.self.now)
 
 pub should_be_one-requires : goal.should_be_one-requires
 should_be_one-requires g c =
     let last = sym (rw c.runs.ensures at c.in-Some.ensures.value) in
     let first = sym (rw c.runs-2.ensures at c.in-Some-first.ensures.value) in
     omega (arith, last_end c.args.self.now c.args.next.now c.in-Some.last.now c.in-Some-first.first.now last first c.requires.ends)
-
-pub returns-then-not-should_be_one-clause-apart : goal.returns-then-not-should_be_one-clause-apart
-returns-then-not-should_be_one-clause-apart g c = λ _.
-    let last = sym (rw c.runs.ensures at c.in-Some.ensures.value) in
-    let first = sym (rw c.runs-2.ensures at c.in-Some-first.ensures.value) in
-    border_apart c.args.self.now c.args.next.now c.in-Some.last.now c.in-Some-first.first.now last first (sym c.should_be_one.ensures ∙ c.if-not-should_be_one.true)
 
 pub overflow_add-range : goal.overflow_add-range
 overflow_add-range g c =
@@ -41,18 +29,29 @@ returns-clause-pages g c =
     let last = sym (rw c.runs.ensures at c.in-Some.ensures.value) in
     let first = sym (rw c.runs-2.ensures at c.in-Some-first.ensures.value) in
     let put = rw c.runs-count.ensures at c.replace.ensures in
-    joined_pages c.args.self.now c.args.next.now c.in-Some.last.now c.in-Some-first.first.now last first (sym c.should_be_one.ensures ∙ c.if-not-should_be_one.false) c.replace.new.self put c.splice.new.self c.splice.ensures
+    joined_pages c.args.self.now c.args.next.now c.in-Some.last.now c.in-Some-first.first.now last first (sym c.should_be_one.ensures ∙ c.if-not-should_be_one.false) c.replace.new.self c.splice.new.self put c.splice.ensures
+
+pub returns-clause-ends : goal.returns-clause-ends
+returns-clause-ends g c =
+    let last = sym (rw c.runs.ensures at c.in-Some.ensures.value) in
+    let first = sym (rw c.runs-2.ensures at c.in-Some-first.ensures.value) in
+    let put = rw c.runs-count.ensures at c.replace.ensures in
+    joined_ends c.args.self.now c.args.next.now c.in-Some.last.now c.in-Some-first.first.now last first (sym c.should_be_one.ensures ∙ c.if-not-should_be_one.false) c.replace.new.self c.splice.new.self put c.splice.ensures
 
 pub returns-clause-order : goal.returns-clause-order
 returns-clause-order g c =
     let last = sym (rw c.runs.ensures at c.in-Some.ensures.value) in
     let first = sym (rw c.runs-2.ensures at c.in-Some-first.ensures.value) in
     let put = rw c.runs-count.ensures at c.replace.ensures in
-    (joined_order c.args.self.now c.args.next.now c.in-Some.last.now c.in-Some-first.first.now last first (sym c.should_be_one.ensures ∙ c.if-not-should_be_one.false) c.replace.new.self put c.requires.order c.requires.runs).0
+    joined_order c.args.self.now c.args.next.now c.in-Some.last.now c.in-Some-first.first.now last first (sym c.should_be_one.ensures ∙ c.if-not-should_be_one.false) c.replace.new.self c.splice.new.self put c.splice.ensures
 
-pub returns-clause-runs : goal.returns-clause-runs
-returns-clause-runs g c =
+pub returns-then-not-should_be_one-clause-order : goal.returns-then-not-should_be_one-clause-order
+returns-then-not-should_be_one-clause-order g c =
     let last = sym (rw c.runs.ensures at c.in-Some.ensures.value) in
     let first = sym (rw c.runs-2.ensures at c.in-Some-first.ensures.value) in
-    let put = rw c.runs-count.ensures at c.replace.ensures in
-    joined_runs c.args.self.now c.args.next.now c.in-Some.last.now c.in-Some-first.first.now last first (sym c.should_be_one.ensures ∙ c.if-not-should_be_one.false) c.replace.new.self put c.requires.order c.requires.runs c.splice.new.self c.splice.ensures
+    border_apart c.args.self.now c.args.next.now c.in-Some.last.now c.in-Some-first.first.now last first (sym c.should_be_one.ensures ∙ c.if-not-should_be_one.true)
+
+pub returns-in_default-first-clause-order : goal.returns-in_default-first-clause-order
+returns-in_default-first-clause-order g c = λ before after a n b.
+    let none = sym (rw c.runs-2.ensures at c.in_default-first.ensures.value) in
+    absurd (omega (arith, c.requires.some.1, ap length (none_next c.args.next.now none)))

@@ -40,7 +40,7 @@ add-requires-clause-apart g c =
     let v = subst IsGranule c.granule.ensures.granule c.granule.ensures.valid in
     let m = moved (extents_of c.reserve.new.self) (extents_of c.self.inside.extents) c.args.self.now.extents c.reserve.ensures.extents (ap (λ (v : PoolValue). v.extents) c.self.view_is) in
     is-new-extents c.args.book.now c.args.self.now.extents (extents_of c.reserve.new.self) _ c.with_block-extent.result c.args.mtype c.args.size c.pages_for.result c.in-Ok-place_for_pool.placed
-    v c.requires.size c.pages_for.ensures.pages (subst AreExtents m c.reserve.ensures.apart) c.requires.owns (subst IsProperMemory c.table.ensures c.len.ensures.proper) w.0 m e refl
+    v c.requires.size c.pages_for.ensures.pages (subst AreExtents m c.reserve.ensures.apart) c.requires.owns (subst IsProperMemory c.table.ensures c.descriptors.ensures.proper) w.0 m e refl
 
 pub returns-clause-allocates : goal.returns-clause-allocates
 returns-clause-allocates g c =
@@ -59,7 +59,7 @@ returns-clause-owns g c =
     let e = is-of-granule _ _ _ _ _ _ _ c.with_block-extent.ensures c.extent_pages-pages.ensures.pages c.granule.ensures.granule in
     let v = subst IsGranule c.granule.ensures.granule c.granule.ensures.valid in
     owns-new c.args.book.now c.place_for_pool.new.self c.args.self.now.extents (extents_of c.reserve.new.self) (extents_of c.add.new.self) c.with_block-extent.result c.args.mtype c.args.size c.pages_for.result c.in-Ok-place_for_pool.placed
-    v c.requires.size c.pages_for.ensures.pages c.requires.owns (subst IsProperMemory c.table.ensures c.len.ensures.proper) w.0 w.1
+    v c.requires.size c.pages_for.ensures.pages c.requires.owns (subst IsProperMemory c.table.ensures c.descriptors.ensures.proper) w.0 w.1
     (moved (extents_of c.reserve.new.self) (extents_of c.self.inside.extents) c.args.self.now.extents c.reserve.ensures.extents (ap (λ (v : PoolValue). v.extents) c.self.view_is)) e c.add.ensures
 
 pub returns-in_default-place_for_pool-clause-reserved : goal.returns-in_default-place_for_pool-clause-reserved
