@@ -2,7 +2,7 @@
 use Rattle.std.proofs.Common.{◌≡◌, ℕ, zero, suc, ◌+◌, ◌-◌, ◌<◌, ◌≤◌, List, [], ◌∷◌, ◌++◌, length, length-append, take, drop, refl, sym, ap, ap₂, subst, ◌∙◌, append_assoc, take-append-drop, arith}
 use Rattle.std.specs.List.{AllByRecursion, AllWithin}
 use Rattle.std.proofs.Math.ListN.{set}
-use Rattle.std.proofs.lemmas.List.{drop-set-lt, drop_all, take-set}
+use Rattle.std.proofs.lemmas.List.{drop-set-lt, drop_all, length-set, take-set}
 use Rattle.page_ranges.specs.declared.ranges.Owner.{Owner}
 use Rattle.page_ranges.specs.declared.ranges.PageRange.{PageRange}
 use Rattle.page_ranges.specs.declared.ranges.Run.{Run}
@@ -15,7 +15,7 @@ use Rattle.descriptor_table.specs.Leaves.{first_page, leaf_at, runs_in, AreLeave
 use Rattle.descriptor_table.specs.Reserves.{cut_count}
 use Rattle.descriptor_table.specs.Tables.{EndBy}
 use Rattle.descriptor_table.proofs.CutCounts.{cuts-append, two_cuts}
-use Rattle.descriptor_table.proofs.LeafChanged.{front_is, rest_is, set_length}
+use Rattle.descriptor_table.proofs.LeafChanged.{front_is, rest_is}
 use Rattle.descriptor_table.proofs.LeafLists
 use Rattle.descriptor_table.proofs.LeafLists.{begin_by_first, end_by_next, runs_in-append}
 use Rattle.descriptor_table.proofs.Meetings.{maximal-left, maximal-right}
@@ -101,7 +101,7 @@ module _ (ls ms ns qs : List (List Run)) (at k : ℕ) (h : at < length ms) (take
 
   step_front : runs_in (take (at + 1) ns) ≡ runs_in (take at ls) ++ leaf_at ns at
   step_front =
-      front_is ns at (omega (arith, h, ap length is, set_length ms at (leaf_at ns at))) ∙ ap (λ ps. runs_in ps ++ leaf_at ns at) (ap (take at) is ∙ take-set ms at (leaf_at ns at) ∙ taken)
+      front_is ns at (omega (arith, h, ap length is, length-set ms at (leaf_at ns at))) ∙ ap (λ ps. runs_in ps ++ leaf_at ns at) (ap (take at) is ∙ take-set ms at (leaf_at ns at) ∙ taken)
 
   pub step_left : AreMaximalRuns (runs_in (drop at ls)) → AreMaximalRuns (runs_in (drop k qs))
   step_left m = maximal-right (leaf_at ms at) (runs_in (drop k qs)) (subst AreMaximalRuns step_back m)

@@ -1,4 +1,4 @@
--- How many entries the map of runs has, by its first two runs and the runs behind the first.
+-- How many entries the map of runs has, by its first two runs and the runs after the first.
 use Rattle.std.proofs.Common.{◌≡◌, ℕ, ◌+◌, ◌-◌, ◌<◌, ◌≤◌, Bool, cond, List, [], ◌∷◌, length, get_or, take, drop, sym, subst, refl, ap₂, ◌∙◌, arith}
 use Rattle.std.proofs.lemmas.List.{take_rest}
 use Rattle.page_ranges.specs.declared.ranges.Run.{Run}

@@ -29,14 +29,14 @@ module _ (range : PageRange) (t : ℕ) (o : Owner) where
       (λ h. omega (arith, under (omega arith))) (λ h. omega (arith, (inside (omega arith)).0)) (λ h. omega (arith, (inside (omega arith)).1)) (λ h. omega (arith, over (omega arith)))
       ∙ ap₂ (λ k l. row (low - r.range.first) (page_in r.range.first r) ++ row (high - low) (page_in k (retyped_run t o r)) ++ row (r.range.first + r.range.pages - high) (page_in l r)) p q
 
-  -- a run that shares no page with the range, put behind others
+  -- a run that shares no page with the range, put after others
   pub put_below : (r : Run) (old new : List Run) → r.range.first + r.range.pages ≤ range.first → pages_of new ≡ pages_of old ++ pages_of (r ∷ []) → AppendsRetyped range t o (r ∷ []) old new
   put_below r old new h put = put ∙ ap (λ ms. pages_of old ++ ms) (sym (retyped-all_below range t o (r ∷ []) (h, tt)))
 
   pub put_above : (r : Run) (old new : List Run) → range.first + range.pages ≤ r.range.first → pages_of new ≡ pages_of old ++ pages_of (r ∷ []) → AppendsRetyped range t o (r ∷ []) old new
   put_above r old new h put = put ∙ ap (λ ms. pages_of old ++ ms) (sym (retyped-all_above range t o (r ∷ []) (h, tt)))
 
-  -- the pages of one more run, behind those of the runs before it
+  -- the pages of one more run, after those of the runs before it
   pub one_more : (rs : List Run) (i : ℕ) (r : Run) → i < length rs → r ≡ get_or rs i r → (first old new : List Run)
       → AppendsRetyped range t o (take i rs) first old → AppendsRetyped range t o (r ∷ []) old new → AppendsRetyped range t o (take (i + 1) rs) first new
   one_more rs i r h e first old new before put =
@@ -47,7 +47,7 @@ module _ (range : PageRange) (t : ℕ) (o : Owner) where
       put ∙ ap (λ ms. ms ++ retyped range t o (pages_of (r ∷ []))) before ∙ append_assoc (pages_of first) some (retyped range t o (pages_of (r ∷ [])))
       ∙ ap (λ ms. pages_of first ++ ms) (sym more)
 
--- three lists put behind a list, one after another
+-- three lists put after a list, one after another
 pub put_behind : (p0 p1 p2 p3 a b b' c : List Page) → p1 ≡ p0 ++ a → p2 ≡ p1 ++ b' → b' ≡ b → p3 ≡ p2 ++ c → p3 ≡ p0 ++ (a ++ b ++ c)
 put_behind p0 p1 p2 p3 a b b' c e f g h =
     h ∙ ap (λ ys. ys ++ c) (f ∙ ap₂ ◌++◌ e g) ∙ ap (λ ys. ys ++ c) (append_assoc p0 a b) ∙ append_assoc p0 (a ++ b) c
@@ -57,12 +57,12 @@ pub up_to_next : (rs ss : List Run) (i : ℕ) (r s : Run) → AreRuns rs → r �
 up_to_next rs ss i r s runs e h f a =
     (a.0, EndBy-higher (r.range.first + r.range.pages) s.range.first ss (omega (arith, ends_before rs i (i + 1) r s runs (omega arith) h, ap (λ q. q.range.first + q.range.pages) e, ap (λ q. q.range.first) f)) a.1)
 
--- the pages of one more run, behind those of the runs before it
+-- the pages of one more run, after those of the runs before it
 pub run_put_behind : (rs : List Run) (i : ℕ) (r : Run) → i < length rs → r ≡ get_or rs i r → (ms ns : List Page) → ns ≡ ms ++ pages_of (r ∷ []) → ms ≡ pages_of (take i rs) → ns ≡ pages_of (take (i + 1) rs)
 run_put_behind rs i r h e ms ns put before =
     put ∙ ap₂ ◌++◌ before (ap (λ s. pages_of (s ∷ [])) e) ∙ sym (ap pages_of (take_more rs i r h) ∙ pages_of-append (take i rs) (get_or rs i r ∷ []))
 
--- ---- runs behind others
+-- ---- runs after others
 
 -- the last of the runs so far ends by a page by which all of them end
 pub last_taken : (rs : List Run) (i end : ℕ) (r : Run) → i < length rs → r ≡ get_or rs i r → EndBy end (take (i + 1) rs) → r.range.first + r.range.pages ≤ end

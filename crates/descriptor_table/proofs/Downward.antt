@@ -174,7 +174,7 @@ pub none_passed : (w : Wanted) (ls : List (List Run)) (leaf : ℕ) → HasPassed
 none_passed w ls leaf = record { passed = []; parts = sym (append-nil (entries_of (runs_in (take leaf ls)))); no_use = tt }
 
 module _ (w : Wanted) (ls : List (List Run)) (all : List Descriptor) where
-  -- the entries of the leaf before an index come right behind those of the leaves before it
+  -- the entries of the leaf before an index come right after those of the leaves before it
   pub leaf_opened : (j : ℕ) → j < length ls → (has : HasPassed w ls all (j + 1)) → all ≡ entries_of (runs_in (take j ls)) ++ (entries_of (leaf_at ls j) ++ has.passed)
   leaf_opened j h has =
       has.parts ∙ ap (λ rs. entries_of rs ++ has.passed) (runs_next ls j h) ∙ ap (λ ds. ds ++ has.passed) (entries-append (runs_in (take j ls)) (leaf_at ls j)) ∙ append_assoc (entries_of (runs_in (take j ls))) (entries_of (leaf_at ls j)) has.passed

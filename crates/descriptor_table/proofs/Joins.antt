@@ -1,4 +1,4 @@
--- Runs put behind others, joined to the last where the two should be one.
+-- Runs put after others, joined to the last where the two should be one.
 use Rattle.std.proofs.Common.{◌≡◌, ℕ, zero, suc, ◌+◌, ◌<◌, ◌≤◌, true, false, List, [], ◌∷◌, ◌++◌, length, get_or, refl, sym, ap, ap₂, subst, ◌∙◌, append_assoc, append-nil, arith}
 use Rattle.std.proofs.Math.ListN.{set}
 use Rattle.std.proofs.lemmas.List.{get_or_default}
@@ -39,7 +39,7 @@ module _ (x : Run) where
   pub grown-pages : (rs : List Run) (i : ℕ) (r : Run) → i + 1 ≡ length rs → r ≡ get_or rs i r → should_be_one_run r x ≡ true → pages_of (set rs i (longer r x.range.pages)) ≡ pages_of rs ++ pages_of (x ∷ [])
   grown-pages rs i r n e one = ap (λ s. pages_of (set rs i (longer s x.range.pages))) e ∙ grown rs i r n (sym (ap (λ s. should_be_one_run s x) e) ∙ one)
 
-  -- the last run with its number of pages alone written anew
+  -- the last run with its number of pages alone changed
   pub last_grows : (rs : List Run) (i : ℕ) (r c d : Run) → i < length rs → r ≡ get_or rs i r
       → set rs i (record { range = record { first = (get_or rs i c).range.first; pages = (get_or rs i d).range.pages + x.range.pages }; mtype = (get_or rs i c).mtype; attributes = (get_or rs i c).attributes; owner = (get_or rs i c).owner })
       ≡ set rs i (longer r x.range.pages)

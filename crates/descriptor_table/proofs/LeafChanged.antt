@@ -1,8 +1,8 @@
 -- A leaf of a row whose pages get a type and an owner.
 use Rattle.std.specs.Prelude.{IsTrue}
-use Rattle.std.proofs.Common.{◌≡◌, ℕ, Bool, true, false, zero, suc, ◌+◌, ◌<◌, ◌≤◌, List, [], ◌∷◌, ◌++◌, length, length-append, take, drop, refl, sym, ap, subst, ◌∙◌, append-nil, append_assoc, take-append-drop, arith}
+use Rattle.std.proofs.Common.{◌≡◌, ℕ, Bool, true, false, zero, suc, ◌+◌, ◌-◌, ◌<◌, ◌≤◌, List, [], ◌∷◌, ◌++◌, length, length-append, take, drop, refl, sym, ap, subst, ◌∙◌, append-nil, append_assoc, take-append-drop, arith}
 use Rattle.std.proofs.Math.ListN.{set}
-use Rattle.std.proofs.lemmas.List.{drop-set-lt, length-map, take-set}
+use Rattle.std.proofs.lemmas.List.{drop-set-lt, get_or-set_same, length-map, length-set, take-set}
 use Rattle.page_ranges.specs.declared.ranges.Owner.{Owner}
 use Rattle.page_ranges.specs.declared.ranges.PageRange.{PageRange}
 use Rattle.page_ranges.specs.declared.ranges.Run.{Run}
@@ -15,15 +15,21 @@ use Rattle.page_ranges.proofs.Retyped.{changed}
 use Rattle.page_ranges.proofs.Rows.{length-row}
 use Rattle.page_ranges.proofs.RunLists.{runs-append, runs-left, runs-right, EndBy-higher}
 use Rattle.page_ranges.proofs.RunMaps.{runs_join}
+use Rattle.descriptor_table.specs.declared.retyping.Retyping.{Retyping}
 use Rattle.descriptor_table.specs.LeafBorders.{HasEndsOf}
+use Rattle.descriptor_table.specs.LeafChanges.{Retypes}
+use Rattle.descriptor_table.specs.LeafRows.{entries_in_three, excess_of}
 use Rattle.descriptor_table.specs.Leaves.{entry_count, first_page, leaf_at, runs_in, AreLeaves}
+use Rattle.descriptor_table.specs.Reserves.{cut_count}
 use Rattle.descriptor_table.specs.Tables.{EndBy}
+use Rattle.descriptor_table.proofs.CutCounts.{two_cuts}
 use Rattle.descriptor_table.proofs.Ends.{last_end, same_first, same_last}
 use Rattle.descriptor_table.proofs.LeafEnds.{inside_count}
 use Rattle.descriptor_table.proofs.LeafLists
 use Rattle.descriptor_table.proofs.LeafLists.{begin_by_first, end_by_next, runs_in-append}
 use Rattle.descriptor_table.proofs.LeafSplices.{set_leaves, set_runs}
 use Rattle.descriptor_table.proofs.Meetings.{count-append, last_run, meet-append, one_if}
+use Rattle.descriptor_table.proofs.SplitLeaves.{excess_set}
 
 last_by : (n : ℕ) (x : Run) (xs : List Run) → EndBy n (x ∷ xs) → (last_run x xs).range.first + (last_run x xs).range.pages ≤ n
 last_by n x [] e = e.0
@@ -100,11 +106,6 @@ front_here [] i h = absurd (omega arith)
 front_here (l ∷ ls) zero h = append-nil l
 front_here (l ∷ ls) (suc i) h = ap (λ rs. l ++ rs) (front_here ls i (omega arith)) ∙ sym (append_assoc l (runs_in (take i ls)) (leaf_at ls i))
 
-pub set_length : (ls : List (List Run)) (i : ℕ) (x : List Run) → length (set ls i x) ≡ length ls
-set_length [] i x = refl
-set_length (l ∷ ls) zero x = refl
-set_length (l ∷ ls) (suc i) x = omega (arith, set_length ls i x)
-
 pub rest_is : (ls : List (List Run)) (i : ℕ) → i < length ls → runs_in (drop i ls) ≡ leaf_at ls i ++ runs_in (drop (i + 1) ls)
 rest_is ls i h =
     let next : suc i ≡ i + 1 = omega arith in
@@ -115,79 +116,84 @@ front_is ls i h =
     let next : i + 1 ≡ suc i = omega arith in
     ap (λ k. runs_in (take k ls)) next ∙ front_here ls i h
 
-pub at_set : (ls : List (List Run)) (i : ℕ) (x : List Run) → i < length ls → leaf_at (set ls i x) i ≡ x
-at_set [] i x h = absurd (omega arith)
-at_set (l ∷ ls) zero x h = refl
-at_set (l ∷ ls) (suc i) x h = at_set ls i x (omega arith)
+pub all_is : (ls : List (List Run)) (i : ℕ) → i < length ls → runs_in ls ≡ runs_in (take i ls) ++ (leaf_at ls i ++ runs_in (drop (i + 1) ls))
+all_is ls i h = ap runs_in (sym (take-append-drop i ls)) ∙ runs_in-append (take i ls) (drop i ls) ∙ ap (λ rs. runs_in (take i ls) ++ rs) (rest_is ls i h)
 
-module _ (ls : List (List Run)) (i : ℕ) (h : i < length ls) where
-  abbrev before : List Run
-  before = runs_in (take i ls)
+-- the runs of a leaf, which are old, give way to others: its pages, retyped
+pub record IsRetyped (r : Retyping) (ls : List (List Run)) (i : ℕ) (old new : List Run) : Type 0 where
+  pub bound : i < length ls
+  pub is : old ≡ leaf_at ls i
+  pub leaves : AreLeaves ls
+  pub runs : AreRuns (runs_in ls)
+  pub ends : EndBy page_count (runs_in ls)
+  pub fits : length old ≤ 30
+  pub pages : Retypes r old new
+  pub order : AreMaximalRuns new
+  pub more : length new ≤ length old + cut_count r.range old
 
-  abbrev after : List Run
-  after = runs_in (drop (i + 1) ls)
+module _ {r : Retyping} {ls : List (List Run)} {i : ℕ} {old new : List Run} (w : IsRetyped r ls i old new) where
+  abbrev front : List Run
+  front = runs_in (take i ls)
 
-  pub all_is : runs_in ls ≡ before ++ (leaf_at ls i ++ after)
-  all_is = ap runs_in (sym (take-append-drop i ls)) ∙ runs_in-append (take i ls) (drop i ls) ∙ ap (λ rs. before ++ rs) (rest_is ls i h)
+  abbrev back : List Run
+  back = runs_in (drop (i + 1) ls)
 
-  pub set_is : (x : List Run) → runs_in (set ls i x) ≡ before ++ (x ++ after)
-  set_is x = let next : suc i ≡ i + 1 = omega arith in set_runs ls i x h ∙ ap (λ k. before ++ (x ++ runs_in (drop k ls))) next
+  all_old : runs_in ls ≡ front ++ (old ++ back)
+  all_old = all_is ls i w.bound ∙ ap (λ l. front ++ (l ++ back)) (sym w.is)
 
-  -- what holds of all runs holds of those of the leaf
-  pub leaf_is : (P : List Run → Type 0) → ((xs ys : List Run) → P (xs ++ ys) → P xs) → ((xs ys : List Run) → P (xs ++ ys) → P ys) → P (runs_in ls) → P (leaf_at ls i)
-  leaf_is P left right p = left (leaf_at ls i) after (right before (leaf_at ls i ++ after) (subst P all_is p))
+  all_new : runs_in (set ls i new) ≡ front ++ (new ++ back)
+  all_new = let next : suc i ≡ i + 1 = omega arith in set_runs ls i new w.bound ∙ ap (λ k. front ++ (new ++ runs_in (drop k ls))) next
 
-  module _ (range : PageRange) (t : ℕ) (o : Owner) (x : List Run) (all : AreLeaves ls) (runs : AreRuns (runs_in ls)) (new : AreMaximalRuns x) (pages : pages_of x ≡ retyped range t o (pages_of (leaf_at ls i))) where
-    old_runs : AreRuns (leaf_at ls i)
-    old_runs = leaf_is AreRuns runs-left runs-right runs
+  in_old : AreRuns (front ++ (old ++ back))
+  in_old = subst AreRuns all_old w.runs
 
-    new_runs : AreRuns x
-    new_runs = maximal_are_runs x new
+  old_runs : AreRuns old
+  old_runs = runs-left old back (runs-right front (old ++ back) in_old)
 
-    some : 0 < length (leaf_at ls i)
-    some = (LeafLists.leaf_at ls i [] all h).0
+  new_runs : AreRuns new
+  new_runs = maximal_are_runs new w.order
 
-    left : 0 < length x
-    left = some_left range t o (leaf_at ls i) x old_runs some pages
+  some : 0 < length old
+  some = omega (arith, ap length w.is, (LeafLists.leaf_at ls i [] w.leaves w.bound).0)
 
-    pub changed_leaves : length x ≤ 32 → AreLeaves (set ls i x)
-    changed_leaves few = set_leaves ls i x all (left, few)
+  left : 0 < length new
+  left = some_left r.range r.mtype r.owner old new old_runs some w.pages
 
-    ends : (n : ℕ) → EndBy n (leaf_at ls i) → EndBy n x
-    ends n e = same_end range t o (leaf_at ls i) x n old_runs new_runs pages some e
+  pub changed_bound : i < length (set ls i new)
+  changed_bound = omega (arith, w.bound, length-set ls i new)
 
-    pub changed_runs : AreRuns (runs_in (set ls i x))
-    changed_runs =
-        subst AreRuns (sym (set_is x))
-        (runs_between before (leaf_at ls i) x after (subst AreRuns all_is runs) new_runs some left (same_begin range t o (leaf_at ls i) x old_runs new_runs pages some left) ends)
+  pub changed_leaves : AreLeaves (set ls i new)
+  changed_leaves = set_leaves ls i new w.leaves (left, omega (arith, w.fits, w.more, two_cuts r.range old old_runs))
 
-    pub changed_ends : EndBy page_count (runs_in ls) → EndBy page_count (runs_in (set ls i x))
-    changed_ends e =
-        let P : Run → Type 0 = λ r. r.range.first + r.range.pages ≤ page_count in
-        let parts = subst (EndBy page_count) all_is e in
-        let rest = all_append_right P before (leaf_at ls i ++ after) parts in
-        subst (EndBy page_count) (sym (set_is x))
-        (all_append P before (x ++ after) (all_append_left P before (leaf_at ls i ++ after) parts) (all_append P x after (ends page_count (all_append_left P (leaf_at ls i) after rest)) (all_append_right P (leaf_at ls i) after rest)))
+  ends : (n : ℕ) → EndBy n old → EndBy n new
+  ends n e = same_end r.range r.mtype r.owner old new n old_runs new_runs w.pages some e
 
-    new_counts : (n : ℕ) → entry_count (runs_in (set ls i x)) + n ≡ entry_count (runs_in (take i (set ls i x))) + entry_count (leaf_at (set ls i x) i) + entry_count (runs_in (drop (i + 1) (set ls i x)))
-        → entry_count (runs_in (set ls i x)) + n ≡ entry_count before + entry_count x + entry_count after
-    new_counts n e =
-        let first = take-set ls i x in
-        let last : drop (i + 1) (set ls i x) ≡ drop (i + 1) ls = drop-set-lt (i + 1) ls i x (omega arith) in
-        omega (arith, e, ap (λ ms. entry_count (runs_in ms)) first, ap entry_count (at_set ls i x h), ap (λ ms. entry_count (runs_in ms)) last)
+  pub changed_runs : AreRuns (runs_in (set ls i new))
+  changed_runs =
+      subst AreRuns (sym all_new) (runs_between front old new back in_old new_runs some left (same_begin r.range r.mtype r.owner old new old_runs new_runs w.pages some left) ends)
 
-    -- How many entries there are by those of the leaf, and by how many go on over its borders, before and after.
-    pub changed_entries : (k n less more : ℕ) → entry_count x + less ≡ entry_count (leaf_at ls i) + more → entry_count (runs_in ls) + k ≡ entry_count before + entry_count (leaf_at ls i) + entry_count after
-        → entry_count (runs_in (set ls i x)) + n ≡ entry_count (runs_in (take i (set ls i x))) + entry_count (leaf_at (set ls i x) i) + entry_count (runs_in (drop (i + 1) (set ls i x)))
-        → entry_count (runs_in ls) + k + more ≡ entry_count (runs_in (set ls i x)) + n + less
-    changed_entries k n less more e a b = omega (arith, e, a, new_counts n b)
+  pub changed_ends : EndBy page_count (runs_in (set ls i new))
+  changed_ends =
+      let P : Run → Type 0 = λ r. r.range.first + r.range.pages ≤ page_count in
+      let parts = subst (EndBy page_count) all_old w.ends in
+      let rest = all_append_right P front (old ++ back) parts in
+      let after = all_append P new back (ends page_count (all_append_left P old back rest)) (all_append_right P old back rest) in
+      subst (EndBy page_count) (sym all_new) (all_append P front (new ++ back) (all_append_left P front (old ++ back) parts) after)
 
-    -- the same where the entries that go on over the borders are asked for only if the leaf's first or last run may change
-    pub any_entries : (asked : Bool) (k n less more : ℕ) → entry_count x + less ≡ entry_count (leaf_at ls i) + more → (asked ≡ false → HasEndsOf (leaf_at ls i) x) → (asked ≡ false → k ≡ 0) → (asked ≡ false → n ≡ 0)
-        → (IsTrue asked → entry_count (runs_in ls) + k ≡ entry_count before + entry_count (leaf_at ls i) + entry_count after)
-        → (IsTrue asked → entry_count (runs_in (set ls i x)) + n ≡ entry_count (runs_in (take i (set ls i x))) + entry_count (leaf_at (set ls i x) i) + entry_count (runs_in (drop (i + 1) (set ls i x))))
-        → entry_count (runs_in ls) + k + more ≡ entry_count (runs_in (set ls i x)) + n + less
-    any_entries true k n less more e ends a b c d = changed_entries k n less more e (c refl) (d refl)
-    any_entries false k n less more e ends a b c d =
-        let inside = inside_count before (leaf_at ls i) x after (subst AreRuns all_is runs) (subst AreRuns (set_is x) changed_runs) some left (ends refl) in
-        omega (arith, e, a refl, b refl, inside, ap entry_count all_is, ap entry_count (set_is x))
+  pub changed_excess : excess_of (set ls i new) + (length old - 16) ≡ excess_of ls + (length new - 16)
+  changed_excess = omega (arith, ap length w.is, excess_set ls i new w.bound)
+
+  -- How many entries there are by those of the leaf, and by how many go on over its borders, before and after. These are asked
+  -- for only if the leaf's first or last run may change.
+  pub changed_entries : (asked : Bool) (k n less more : ℕ) → entry_count new + less ≡ entry_count old + more
+      → (asked ≡ false → HasEndsOf old new) → (asked ≡ false → k ≡ 0) → (asked ≡ false → n ≡ 0)
+      → (IsTrue asked → entry_count (runs_in ls) + k ≡ entries_in_three i ls) → (IsTrue asked → entry_count (runs_in (set ls i new)) + n ≡ entries_in_three i (set ls i new))
+      → entry_count (runs_in ls) + k + more ≡ entry_count (runs_in (set ls i new)) + n + less
+  changed_entries true k n less more e same a b c d =
+      let first = take-set ls i new in
+      let last : drop (i + 1) (set ls i new) ≡ drop (i + 1) ls = drop-set-lt (i + 1) ls i new (omega arith) in
+      let here = get_or-set_same ls i new [] w.bound in
+      omega (arith, e, ap entry_count w.is, c refl, d refl, ap (λ ms. entry_count (runs_in ms)) first, ap entry_count here, ap (λ ms. entry_count (runs_in ms)) last)
+  changed_entries false k n less more e same a b c d =
+      let inside = inside_count front old new back in_old (subst AreRuns all_new changed_runs) some left (same refl) in
+      omega (arith, e, a refl, b refl, inside, ap entry_count all_old, ap entry_count all_new)

@@ -17,7 +17,7 @@ use Rattle.descriptor_table.proofs.Ends.{page_at-past_all}
 pub runs_in-append : (ls ms : List (List Run)) → runs_in (ls ++ ms) ≡ runs_in ls ++ runs_in ms
 runs_in-append ls ms = flat_map-append (λ (l : List Run). l) ls ms
 
--- the runs of leaves, one more leaf behind
+-- the runs of leaves, one more leaf after them
 pub runs_in-last : (ls : List (List Run)) (l : List Run) → runs_in (ls ++ l ∷ []) ≡ runs_in ls ++ l
 runs_in-last ls l = runs_in-append ls (l ∷ []) ∙ ap (λ rs. runs_in ls ++ rs) (append-nil l)
 
@@ -61,6 +61,9 @@ leaf_all P [] i d a h = absurd (omega arith)
 leaf_all P (l ∷ ls) zero d a h = all_append_left P l (runs_in ls) a
 leaf_all P (l ∷ ls) (suc i) d a h = leaf_all P ls i d (all_append_right P l (runs_in ls) a) (omega arith)
 
+pub leaf_ends : (n : ℕ) (ls : List (List Run)) (i : ℕ) (d : List Run) → EndBy n (runs_in ls) → i < length ls → EndBy n (get_or ls i d)
+leaf_ends n = leaf_all (λ r. r.range.first + r.range.pages ≤ n)
+
 pub leaf_member : (ls : List (List Run)) (i : ℕ) (d : List Run) (r : Run) → i < length ls → Contains (get_or ls i d) r → Contains (runs_in ls) r
 leaf_member [] i d r h c = absurd (omega arith)
 leaf_member (l ∷ ls) zero d r h c = member_left l (runs_in ls) r c
@@ -76,7 +79,7 @@ leaf_firsts_rise (l ∷ ls) a b zero (suc j) d m h =
 leaf_firsts_rise (l ∷ ls) a b (suc i) zero d m h = absurd (omega arith)
 leaf_firsts_rise (l ∷ ls) a b (suc i) (suc j) d m h = leaf_firsts_rise ls a.1 (runs-right l (runs_in ls) b) i j d (omega arith) (omega arith)
 
--- ---- the leaves before a place and behind it
+-- ---- the leaves before a place and after it
 
 some_runs : (ls : List (List Run)) → AreLeaves ls → 0 < length ls → 0 < length (runs_in ls)
 some_runs [] a h = absurd (omega arith)
@@ -98,7 +101,7 @@ leaves_end_below (l ∷ k ∷ ls) (suc n) page a b h m =
     (all_implied (λ r. r.range.first + r.range.pages ≤ first_page (runs_in (k ∷ ls))) (λ r. r.range.first + r.range.pages < page) (λ r e. omega (arith, e, first_in k ls a.1.0)) l ends)
     (leaves_end_below (k ∷ ls) n page a.1 rest (omega arith) m)
 
--- what begins behind a page, by the first pages of the leaves
+-- what begins above a page, by the first pages of the leaves
 pub leaves_begin_above : (ls : List (List Run)) (n page : ℕ) → AreRuns (runs_in ls) → ((k : ℕ) (d : List Run) → n ≤ k → k < length ls → page < first_page (get_or ls k d)) → AllByRecursion (λ r. page < r.range.first) (runs_in (drop n ls))
 leaves_begin_above [] zero page b h = tt
 leaves_begin_above [] (suc n) page b h = tt
@@ -183,7 +186,7 @@ get_dropped [] (suc n) (suc k) i e = refl
 get_dropped (x ∷ xs) (suc n) k zero e = absurd (omega arith)
 get_dropped (x ∷ xs) (suc n) k (suc i) e = get_dropped xs n k i (omega arith)
 
--- a run of a leaf is one of all, behind those of the leaves before it
+-- a run of a leaf is one of all, after those of the leaves before it
 pub run_of_leaf : (ls : List (List Run)) (j i : ℕ) (d : List Run) → j < length ls → i < length (get_or ls j d) → slice_get (runs_in ls) (length (runs_in (take j ls)) + i) ≡ slice_get (get_or ls j d) i
 run_of_leaf [] j i d h k = absurd (omega arith)
 run_of_leaf (l ∷ ls) zero i d h k = let e : 0 + i ≡ i = omega arith in ap (slice_get (l ++ runs_in ls)) e ∙ get_left l (runs_in ls) i k

@@ -1,7 +1,7 @@
 -- Rows of leaves.
-use Rattle.std.proofs.Common.{◌≡◌, ◌≢◌, ℕ, zero, suc, ◌+◌, ◌-◌, ◌<◌, ◌≤◌, Bool, List, [], ◌∷◌, ◌++◌, length, length-append, length-drop, get_or, take, drop, append-nil, append_assoc, take-append-drop, drop-cons, refl, sym, ap, subst, ◌∙◌, arith}
+use Rattle.std.proofs.Common.{◌≡◌, ◌≢◌, ℕ, zero, suc, ◌+◌, ◌-◌, ◌<◌, ◌≤◌, Bool, List, [], ◌∷◌, ◌++◌, Vec, length, length-append, length-drop, get_or, take, drop, append-nil, append_assoc, take-append-drop, drop-cons, refl, sym, ap, subst, ◌∙◌, arith}
 use Rattle.std.proofs.Math.ListN.{set}
-use Rattle.std.proofs.lemmas.List.{get_or_default, get_or-drop, get_or-set_other, get_or-set_same, get_or-take, length-set, length-take-le, set-get_or, take_all}
+use Rattle.std.proofs.lemmas.List.{get_or_default, get_or-drop, get_or-set_other, get_or-set_same, get_or-take, length-set, length-take-le, set-get_or, take_all, take_at}
 use Rattle.page_ranges.specs.declared.ranges.Run.{Run}
 use Rattle.page_ranges.specs.MemoryTypes.{page_count}
 use Rattle.page_ranges.specs.Runs.{pages_of, AreMaximalRuns, AreRuns}
@@ -10,11 +10,12 @@ use Rattle.page_ranges.proofs.RunLists.{pages_of-append, run_at, runs-left, runs
 use Rattle.page_ranges.proofs.RunMaps.{runs_join}
 use Rattle.descriptor_table.specs.LeafBorders.{JoinsRuns}
 use Rattle.descriptor_table.specs.Leaves.{entry_count, runs_in, AreLeaves, IsLeaf}
-use Rattle.descriptor_table.specs.LeafRows.{excess_of}
+use Rattle.descriptor_table.specs.LeafRows.{excess_of, IsRow, JoinsBorder}
 use Rattle.descriptor_table.specs.Tables.{EndBy}
 use Rattle.descriptor_table.proofs.Begun.{meet_at, meet_behind, runs_with_leaf}
-use Rattle.descriptor_table.proofs.LeafLists.{leaf_all, leaf_at, runs_in-append, runs_in-last}
+use Rattle.descriptor_table.proofs.LeafLists.{leaf_at, leaf_ends, runs_in-append, runs_in-last}
 use Rattle.descriptor_table.proofs.Meetings.{meet, meet-append, one_if, count-append}
+use Rattle.descriptor_table.proofs.TableFacts.{few_entries, few_runs}
 
 -- ---- a leaf and the next one
 
@@ -24,7 +25,7 @@ some_in ls i a w h ea = subst (λ l. 0 < length l) (sym ea) (leaf_at ls i a w h)
 -- the last run of a leaf
 pub last_end : (ls : List (List Run)) (i : ℕ) (a : List Run) (x : Run) → AreLeaves ls → EndBy page_count (runs_in ls) → i < length ls → a ≡ get_or ls i a → x ≡ get_or a (length a - 1) x → x.range.first + x.range.pages ≤ page_count
 last_end ls i a x w e h ea ex =
-    let end : EndBy page_count a = subst (EndBy page_count) (sym ea) (leaf_all (λ r. r.range.first + r.range.pages ≤ page_count) ls i a e h) in
+    let end : EndBy page_count a = subst (EndBy page_count) (sym ea) (leaf_ends page_count ls i a e h) in
     subst (λ r. r.range.first + r.range.pages ≤ page_count) (sym ex) (run_at (λ r. r.range.first + r.range.pages ≤ page_count) a (length a - 1) x end (omega (arith, some_in ls i a w h ea)))
 
 meet_first : (test : Run → Run → Bool) (xs ys zs : List Run) → 0 < length ys → meet test xs (ys ++ zs) ≡ meet test xs ys
@@ -129,37 +130,54 @@ module _ (ls front back : List (List Run)) (at : ℕ) (d e : List Run) (bound : 
     new_next : get_or new at [] ≡ y
     new_next = ap (λ ms. get_or ms at []) new_is ∙ get_or-set_same (set ls (at - 1) x) at y [] (omega (arith, bound.1, length-set ls (at - 1) x))
 
-    pub only_pair : new ≡ set (set ls (at - 1) (get_or new (at - 1) [])) at (get_or new at [])
+    only_pair : new ≡ set (set ls (at - 1) (get_or new (at - 1) [])) at (get_or new at [])
     only_pair = new_is ∙ ap (λ l. set (set ls (at - 1) l) at y) (sym new_first) ∙ ap (λ l. set (set ls (at - 1) (get_or new (at - 1) [])) at l) (sym new_next)
-
-    pub no_more : length y ≤ length next → length (get_or new at []) ≤ length (get_or ls at [])
-    no_more h = omega (arith, h, ap length new_next, ap length (next_is ∙ get_or_default ls at e [] bound.1))
 
     runs_new : runs_in (take (at + 1) new) ≡ before ++ (x ++ y)
     runs_new = ap (λ ms. runs_in (take (at + 1) ms)) new_is ∙ ap (λ n. runs_in (take n (set (set ls (at - 1) x) at y))) after ∙ taken_pair ls (at - 1) at x y (omega (arith, bound.0)) bound.1
 
-    pub new_pages : pages_of (x ++ y) ≡ pages_of (first ++ next) → pages_of (runs_in (take (at + 1) new)) ≡ pages_of (runs_in (take (at + 1) ls))
+    new_pages : pages_of (x ++ y) ≡ pages_of (first ++ next) → pages_of (runs_in (take (at + 1) new)) ≡ pages_of (runs_in (take (at + 1) ls))
     new_pages p =
         ap pages_of runs_new ∙ pages_of-append before (x ++ y) ∙ ap (λ m. pages_of before ++ m) p ∙ sym (pages_of-append before (first ++ next)) ∙ sym (ap pages_of runs_old)
 
-    pub new_order : AreMaximalRuns (runs_in (take at ls)) → JoinsRuns first next (x ++ y) → (rest : List Run) → AreMaximalRuns (get_or ls at [] ++ rest) → AreRuns (runs_in (take (at + 1) ls) ++ rest) → AreMaximalRuns (runs_in (take (at + 1) new) ++ rest)
+    new_order : AreMaximalRuns (runs_in (take at ls)) → JoinsRuns first next (x ++ y) → (rest : List Run) → AreMaximalRuns (get_or ls at [] ++ rest) → AreRuns (runs_in (take (at + 1) ls) ++ rest) → AreMaximalRuns (runs_in (take (at + 1) new) ++ rest)
     new_order m j rest n r =
         let leaf : get_or ls at [] ≡ next = sym (next_is ∙ get_or_default ls at e [] bound.1) in
         let there = ap (λ rs. rs ++ rest) runs_old ∙ append_assoc before (first ++ next) rest in
         subst AreMaximalRuns (sym (ap (λ rs. rs ++ rest) runs_new ∙ append_assoc before (x ++ y) rest))
         (j before rest (subst AreMaximalRuns runs_before m) (subst (λ rs. AreMaximalRuns (rs ++ rest)) leaf n) (subst AreRuns there r))
 
-    pub new_ends : ((n : ℕ) → EndBy n (first ++ next) → EndBy n (x ++ y)) → (n : ℕ) → EndBy n (runs_in (take (at + 1) ls)) → EndBy n (runs_in (take (at + 1) new))
+    new_ends : ((n : ℕ) → EndBy n (first ++ next) → EndBy n (x ++ y)) → (n : ℕ) → EndBy n (runs_in (take (at + 1) ls)) → EndBy n (runs_in (take (at + 1) new))
     new_ends f n a =
         let P : Run → Type 0 = λ r. r.range.first + r.range.pages ≤ n in
         let was = subst (EndBy n) runs_old a in
         subst (EndBy n) (sym runs_new) (all_append P before (x ++ y) (all_append_left P before (first ++ next) was) (f n (all_append_right P before (first ++ next) was)))
 
+    -- the border between the two is joined, as a vector of n leaves has it after a write through its slice
+    pub joined_border : (n : ℕ) → length ls ≡ n → AreMaximalRuns (runs_in (take at ls)) → pages_of (x ++ y) ≡ pages_of (first ++ next) → JoinsRuns first next (x ++ y)
+        → ((k : ℕ) → EndBy k (first ++ next) → EndBy k (x ++ y)) → length x ≡ length first → length y ≤ length next → JoinsBorder at ls (take n (new ++ drop (length new) ls))
+    joined_border n size below pages order ends count fewer =
+        let length_is = ap length new_is ∙ length-set (set ls (at - 1) x) at y ∙ length-set ls (at - 1) x ∙ size in
+        subst (JoinsBorder at ls) (sym (take_at new (drop (length new) ls) n length_is)) record {
+          two = only_pair;
+          pages = new_pages pages;
+          order = new_order below order;
+          ends = new_ends ends;
+          count = omega (arith, count, ap length new_first, ap length (first_is ∙ get_or_default ls (at - 1) d [] (omega (arith, bound.1))));
+          fewer = omega (arith, fewer, ap length new_next, ap length (next_is ∙ get_or_default ls at e [] bound.1));
+        }
+
 -- ---- how many runs leaves have beyond the first 16 of each
 
-pub few_beyond : (ls : List (List Run)) → excess_of ls ≤ length (runs_in ls)
+few_beyond : (ls : List (List Run)) → excess_of ls ≤ length (runs_in ls)
 few_beyond [] = omega arith
 few_beyond (l ∷ ls) = omega (arith, few_beyond ls, length-append l (runs_in ls))
+
+-- neither the entries of a row nor its excess are more than there are pages
+pub few_in_row : {A : Type 0} {leaves spare : Vec (List Run) A} {count beyond : ℕ} {parts : Vec Run A} → IsRow leaves spare count beyond parts → (count ≤ page_count) × (beyond ≤ page_count)
+few_in_row {leaves = leaves} row =
+    let rs = runs_in leaves.items in
+    (omega (arith, row.entries, few_entries rs row.runs row.ends), omega (arith, row.excess, few_beyond leaves.items, few_runs rs row.runs row.ends))
 
 pub excess-append : (ls ms : List (List Run)) → excess_of (ls ++ ms) ≡ excess_of ls + excess_of ms
 excess-append [] ms = omega arith

@@ -1,4 +1,4 @@
--- Two lists of runs one behind the other: whether the last run of the first goes on in the first run of the second.
+-- Two lists of runs one after the other: whether the last run of the first goes on in the first run of the second.
 use Rattle.std.proofs.Common.{◌≡◌, ℕ, ◌+◌, ◌≤◌, Bool, true, false, cond, List, [], ◌∷◌, ◌++◌, refl, sym, ap, ◌∙◌, arith}
 use Rattle.std.specs.List.{AllByRecursion}
 use Rattle.page_ranges.specs.declared.ranges.Run.{Run}
@@ -8,7 +8,7 @@ use Rattle.page_ranges.proofs.RunMaps.{runs_join, length_of_last, length_of_runs
 use Rattle.descriptor_table.specs.Tables.{EndBy}
 use Rattle.descriptor_table.specs.Leaves.{entry_count}
 
--- the last of a run and the runs behind it
+-- the last of a run and the runs after it
 abbrev pub last_run : Run → List Run → Run
 last_run x [] = x
 last_run x (y ∷ ys) = last_run y ys

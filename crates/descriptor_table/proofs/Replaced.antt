@@ -1,5 +1,5 @@
 -- The middle of maximal runs is replaced by maximal runs of the same pages, retyped. What comes before the middle ends below
--- the range, and what comes behind it begins above the range.
+-- the range, and what comes after it begins above the range.
 use Rattle.std.proofs.Common.{◌≡◌, ℕ, ◌+◌, ◌<◌, ◌≤◌, List, [], ◌∷◌, ◌++◌, length, refl, sym, ap, ◌∙◌, length-append, arith}
 use Rattle.std.specs.List.{AllByRecursion}
 use Rattle.std.proofs.lemmas.List.{length-map}

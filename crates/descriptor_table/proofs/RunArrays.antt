@@ -1,4 +1,4 @@
--- A list of runs in an array, where others take the place of some: they are written in place; or room is made behind all, the rest moved, the others written, the end cut off.
+-- A list of runs in an array, where others take the place of some: they are written in place; or room is made after all, the rest moved, the others written, the end cut off.
 use Rattle.std.proofs.Common.{◌≡◌, ℕ, ◌+◌, ◌-◌, ◌≤◌, List, ◌++◌, length, take, drop, ap, ap₂, sym, Result, Ok, Err, OnOk, IsOk, ◌∙◌, append_assoc, append-nil, arith}
 use Rattle.std.proofs.lemmas.Bool.{false≢true}
 use Rattle.std.proofs.Math.Seq.{take_at, drop_at, length_paste_head, paste}
@@ -32,7 +32,7 @@ at_end old low high parts h e =
     ∙ ap (λ ys. take low old ++ ys) (take-append-drop (high - low) parts ∙ sym (append-nil parts) ∙ ap (λ ys. parts ++ ys) (sym none))
 
 module _ {X : Type 0} (old room parts : List X) (low high n : ℕ) (a : low ≤ high) (b : high ≤ length old) (f : low + length parts ≤ high + length room) (e : n ≡ low + length parts + (length old - high)) where
-  -- what is behind the runs that go, where it lies once there is room
+  -- what is after the runs that go, where it lies once there is room
   abbrev pub behind : List X
   behind = take (length old - high) (drop high (old ++ room))
 

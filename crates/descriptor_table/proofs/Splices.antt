@@ -55,7 +55,7 @@ module _ (rs : List Run) (low high : ℕ) where
 
 -- ---- what follows for a table
 
--- The runs of a table in three parts. What comes before the middle ends below a range, and what comes behind it begins above
+-- The runs of a table in three parts. What comes before the middle ends below a range, and what comes after it begins above
 -- the range.
 pub record AreCut (rs : List Run) (range : PageRange) (before_runs old behind_runs : List Run) : Type 0 where
   pub parts : rs ≡ before_runs ++ (old ++ behind_runs)
@@ -124,7 +124,7 @@ module _ (rs : List Run) (n : ℕ) (range : PageRange) (t : ℕ) (o : Owner) (ta
     pub new_ends : (t ≡ conventional → o ≡ Given) → EndBy page_count new
     new_ends own = proper_ends new new_runs (subst IsProperMemory (sym new_pages) (retyped-proper range t o own (pages_of rs) table.proper))
 
-    -- the map of all up to any run behind the window has as many entries more as that of the window
+    -- the map of all up to any run after the window has as many entries more as that of the window
     pub window_grows : (m k : List Run) → behind_runs ≡ m ++ k → entry_count (before_runs ++ (parts ++ m)) + entry_count old ≡ entry_count (before_runs ++ (old ++ m)) + entry_count parts
     window_grows m k e =
         let cut : before_runs ++ (old ++ (m ++ k)) ≡ (before_runs ++ (old ++ m)) ++ k = simp append_assoc in

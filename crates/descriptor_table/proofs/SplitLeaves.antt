@@ -1,10 +1,10 @@
 -- A leaf whose last runs go to a new leaf after it.
-use Rattle.std.proofs.Common.{◌≡◌, ℕ, zero, suc, ◌+◌, ◌-◌, ◌<◌, ◌≤◌, List, [], ◌∷◌, ◌++◌, length, length-append, length-drop, take, drop, take_all, take-append-drop, append_assoc, refl, sym, ap, ap₂, ◌∙◌, arith}
-use Rattle.std.proofs.lemmas.List.{length-take-le}
+use Rattle.std.proofs.Common.{◌≡◌, ◌≢◌, ℕ, zero, suc, ◌+◌, ◌-◌, ◌<◌, ◌≤◌, List, [], ◌∷◌, ◌++◌, length, length-drop, take, drop, take_all, take-append-drop, append_assoc, refl, sym, ap, ap₂, ◌∙◌, arith}
+use Rattle.std.proofs.lemmas.List.{get_or-set_other, length-take-le}
 use Rattle.std.specs.List.{insert}
 use Rattle.std.proofs.Math.ListN.{set}
 use Rattle.page_ranges.specs.declared.ranges.Run.{Run}
-use Rattle.descriptor_table.specs.LeafRows.{excess_of}
+use Rattle.descriptor_table.specs.LeafRows.{excess_at_border, excess_of}
 use Rattle.descriptor_table.specs.Leaves.{leaf_at, runs_in, AreLeaves, IsLeaf}
 
 -- a leaf's excess is no more than that of all
@@ -19,10 +19,12 @@ excess_set [] i x h = absurd (omega arith)
 excess_set (l ∷ ls) zero x h = omega arith
 excess_set (l ∷ ls) (suc i) x h = omega (arith, excess_set ls i x (omega arith))
 
--- the excess is no more than the runs
-pub excess_within : (ls : List (List Run)) → excess_of ls ≤ length (runs_in ls)
-excess_within [] = omega arith
-excess_within (l ∷ ls) = omega (arith, excess_within ls, length-append l (runs_in ls))
+-- nor is that of a leaf and the one before it
+pub border_within : (ls : List (List Run)) (at : ℕ) → (0 < at) × (at < length ls) → excess_at_border at ls ≤ excess_of ls
+border_within ls at bound =
+    let apart : at ≢ at - 1 = omega (arith, bound.0) in
+    let rest = set ls (at - 1) [] in
+    omega (arith, excess_set ls (at - 1) [] (omega (arith, bound.1)), excess_at rest at, ap length (get_or-set_other ls (at - 1) at [] [] apart))
 
 module _ (x y : List Run) where
   abbrev pub split_at : List (List Run) → ℕ → List (List Run)

@@ -17,7 +17,7 @@ use Rattle.descriptor_table.proofs.NoUse.{entries-append}
 
 -- ---- the first free run of some
 
--- the runs from an index on are the one there and those behind it
+-- the runs from an index on are the one there and those after it
 dropped : (rs : List Run) (i : ℕ) (r : Run) → i < length rs → r ≡ get_or rs i r → entries_of (drop i rs) ≡ entries_of (r ∷ drop (i + 1) rs)
 dropped rs i r h at = ap entries_of (drop_more rs i r h ∙ ap (λ x. x ∷ drop (i + 1) rs) (sym at))
 
@@ -53,7 +53,7 @@ module _ (marks : ℕ) (rs : List Run) (m : MarksFree marks rs) (from i : ℕ) (
 
 -- ---- one leaf after the other
 
--- the entries of a leaf come before those of the leaves behind it
+-- the entries of a leaf come before those of the leaves after it
 pub leaf_first : (ls : List (List Run)) (j : ℕ) → j < length ls → entries_from ls j ≡ entries_of (leaf_at ls j) ++ entries_from ls (j + 1)
 leaf_first ls j h = ap (λ l. entries_of (runs_in l)) (drop_more ls j [] h) ∙ entries-append (leaf_at ls j) (runs_in (drop (j + 1) ls))
 

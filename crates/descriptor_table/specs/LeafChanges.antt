@@ -9,12 +9,12 @@ use Rattle.page_ranges.specs.Runs.{page_in, pages_of}
 use Rattle.descriptor_table.specs.declared.retyping.Retyping.{Retyping}
 use Rattle.descriptor_table.specs.Tables.{EndBy}
 
--- the pages of runs become those of a part of a run behind others, from one page up to another
+-- the pages of runs become those of a part of a run after others, from one page up to another
 abbrev pub AppendsPart : ℕ → ℕ → Run → List Run → List Run → Type 0
 AppendsPart first end run old new =
     pages_of new ≡ pages_of old ++ row (end - first) (page_in first run)
 
--- the pages of runs become those of others with a range retyped, behind those that were there
+-- the pages of runs become those of others with a range retyped, after those that were there
 abbrev pub AppendsRetyped : PageRange → ℕ → Owner → List Run → List Run → List Run → Type 0
 AppendsRetyped range mtype owner runs old new =
     pages_of new ≡ pages_of old ++ retyped range mtype owner (pages_of runs)

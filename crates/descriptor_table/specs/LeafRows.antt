@@ -1,6 +1,6 @@
 -- A row of leaves, and spare leaves.
 use Rattle.std.specs.Prelude.{◌≡◌, ◌⊎◌, ℕ, ◌+◌, ◌-◌, ◌*◌, ◌≤◌, List, [], ◌∷◌, ◌++◌, length, set, take, drop, Vec, vec_capacity}
-use Rattle.std.specs.List.{AllByRecursion}
+use Rattle.std.specs.List.{AllByRecursion, remove}
 use Rattle.page_ranges.specs.declared.ranges.Run.{Run}
 use Rattle.page_ranges.specs.MemoryTypes.{page_count}
 use Rattle.page_ranges.specs.Runs.{pages_of, AreMaximalRuns, AreRuns}
@@ -46,6 +46,10 @@ excess_of (l ∷ ls) = (length l - 16) + excess_of ls
 abbrev pub excess_at_border : ℕ → List (List Run) → ℕ
 excess_at_border at ls = (length (leaf_at ls (at - 1)) - 16) + (length (leaf_at ls at) - 16)
 
+-- how many runs a leaf and the one before it have
+abbrev pub runs_at_border : ℕ → List (List Run) → ℕ
+runs_at_border at ls = length (leaf_at ls (at - 1)) + length (leaf_at ls at)
+
 -- Each spare leaf counts for 15 runs, since a split of a full leaf lowers the excess by 15 or more.
 -- What the spare leaves count for, less the excess, falls by at most n.
 abbrev pub Takes : ℕ → Row → Row → Type 0
@@ -75,6 +79,21 @@ JoinsLeaves at old new =
     (after : List Run) → AreMaximalRuns (leaf_at old at ++ after)
     → AreRuns (runs_up_to (at + 1) old ++ after)
     → AreMaximalRuns (runs_up_to (at + 1) new ++ after)
+
+-- The two runs at the border before a leaf are one where they should be. Only that leaf and the one
+-- before it change, and they keep their pages. The one before has as many runs as it had, and the
+-- leaf has no more.
+pub record JoinsBorder (at : ℕ) (old new : List (List Run)) : Type 0 where
+  pub two : ChangesTwo at old new
+  pub pages : KeepsPages (at + 1) old (at + 1) new
+  pub order : JoinsLeaves at old new
+  pub ends : KeepsEnds (at + 1) old new
+  pub count : length (leaf_at new (at - 1)) ≡ length (leaf_at old (at - 1))
+  pub fewer : length (leaf_at new at) ≤ length (leaf_at old at)
+
+-- the leaves once one is merged into the one before it
+abbrev pub merged_at : ℕ → List (List Run) → List (List Run)
+merged_at at ls = set (remove ls at) (at - 1) (leaf_at ls (at - 1) ++ leaf_at ls at)
 
 -- Runs in order, in leaves, with the number of their map entries and their excess. Both vectors have
 -- capacity for all leaves, and the buffer has capacity for the runs of one.

@@ -81,15 +81,15 @@ IsFreeRunOfLeaf ls leaf rs marks index run = AreProperLeaves ls × (leaf < lengt
 
 -- ---- blocks beside a run
 
--- In each memory of maximal runs in which a run comes right behind another one, or is the first, the
+-- In each memory of maximal runs in which a run comes right after another one, or is the first, the
 -- answer is a block with the page just below it.
 abbrev pub IsBelowRun : Option Run → Run → Option Descriptor → Type 0
 IsBelowRun below r result = (rs ss : List Run) → AreMaximalRuns rs → IsProperMemory (pages_of rs)
     → IsPlace rs (record { before = below; rest = r ∷ ss })
     → IsBlockBelow (pages_of rs) r.range.first result
 
--- In each memory of maximal runs in which another one comes right behind a run, or the run is the
--- last, the answer is a block with the page just behind it.
+-- In each memory of maximal runs in which another one comes right after a run, or the run is the
+-- last, the answer is a block with the page just after it.
 abbrev pub IsAboveRun : Run → Option Run → Option Descriptor → Type 0
 IsAboveRun r above result = (rs ss : List Run) (o : Option Run) → AreMaximalRuns rs
     → IsProperMemory (pages_of rs) → IsPlace rs (record { before = o; rest = r ∷ ss })

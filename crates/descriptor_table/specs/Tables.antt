@@ -28,7 +28,7 @@ EndBy n rs = AllByRecursion (λ r. r.range.first + r.range.pages ≤ n) rs
 abbrev pub AreMaximalUpTo : ℕ → List Run → Type 0
 AreMaximalUpTo n rs = AreMaximalRuns rs × EndBy n rs
 
--- maximal runs with the pages of the old ones and of a run behind these, where they end
+-- maximal runs with the pages of the old ones and of a run after these, where they end
 pub record PutsBehind (old : List Run) (r : Run) (new : List Run) : Type 0 where
   pub pages : pages_of new ≡ pages_of old ++ pages_of (r ∷ [])
   pub order : AreMaximalUpTo (r.range.first + r.range.pages) new

@@ -50,16 +50,16 @@ pub record EntryOfMap : Type 0 where
 abbrev pub IsBlockBefore : EntryOfMap → Option Descriptor → Type 0
 IsBlockBefore f o = IsBlockBelow f.memory f.entry.first o
 
--- a block that has the page just behind an entry, or none where that page is absent
+-- a block that has the page just after an entry, or none where that page is absent
 abbrev pub IsBlockBehind : EntryOfMap → Option Descriptor → Type 0
 IsBlockBehind f o = IsBlockAt f.memory (f.entry.first + f.entry.pages) o
 
--- the page just behind an entry is conventional
+-- the page just after an entry is conventional
 abbrev pub IsFreeBehind : EntryOfMap → Type 0
 IsFreeBehind f = IsConventional (page_at f.memory (f.entry.first + f.entry.pages))
 
--- The answer is the entries of a leaf, which come right behind those that are left then, but for some
--- of no use behind them; or all that are left are of no use.
+-- The answer is the entries of a leaf, which come right after those that are left then, but for some
+-- of no use after them; or all that are left are of no use.
 abbrev pub YieldsLeafEntries : Wanted → EntriesLeft → Option FreeList → EntriesLeft → Type 0
 YieldsLeafEntries w old None new = AllByRecursion (IsOfNoUse old.memory w) old.entries
 YieldsLeafEntries w old (Some l) new = (l.memory ≡ old.memory) × (new.leaves < old.leaves)

@@ -23,7 +23,7 @@ pub(crate) fn should_be_one(run: &Run, next: &Run) -> bool
         && run.owner == next.owner
 }
 
-/// Makes the last of a row of runs longer by a run behind it where the two should be one, and returns
+/// Makes the last of a row of runs longer by a run after it where the two should be one, and returns
 /// whether they should.
 #[inline(always)]
 fn grow_last(runs: &mut [Run], run: &Run) -> bool
@@ -43,7 +43,7 @@ fn grow_last(runs: &mut [Run], run: &Run) -> bool
     false
 }
 
-/// Puts a run behind others that end at its first page or below it: as a part of the last one where the
+/// Puts a run after others that end at its first page or below it: as a part of the last one where the
 /// two should be one.
 #[inline(always)]
 pub(crate) fn push_joined<A: Allocator>(runs: &mut Vec<Run, A>, run: Run) -> Result<(), AllocError>
@@ -62,7 +62,7 @@ pub(crate) fn push_joined<A: Allocator>(runs: &mut Vec<Run, A>, run: Run) -> Res
     Ok(())
 }
 
-/// Puts the part of a run from one page up to another behind others; an empty part leaves them.
+/// Puts the part of a run from one page up to another after others; an empty part leaves them.
 #[inline(always)]
 fn push_part<A: Allocator>(
     runs: &mut Vec<Run, A>,
@@ -91,7 +91,7 @@ fn push_part<A: Allocator>(
     push_joined(runs, Run { range, ..*run })
 }
 
-/// Puts a run in which the pages of a range have a type and an owner behind others, which end at its first page
+/// Puts a run in which the pages of a range have a type and an owner after others, which end at its first page
 /// or below it. The run begins below the range's end, and ends above the range's first page.
 fn push_cut<A: Allocator>(
     parts: &mut Vec<Run, A>,
@@ -130,8 +130,8 @@ fn push_cut<A: Allocator>(
     push_part(parts, run, high, end)
 }
 
-/// Puts the runs in which the pages of a range have a type and an owner behind others, which end where
-/// these begin or below. A run that shares no page with the range goes behind them as it is.
+/// Puts the runs in which the pages of a range have a type and an owner after others, which end where
+/// these begin or below. A run that shares no page with the range goes after them as it is.
 pub(crate) fn push_behind<A: Allocator>(
     parts: &mut Vec<Run, A>,
     runs: &[Run],

@@ -92,7 +92,7 @@ impl<'a, A: Allocator + Copy> MapEntries<'a, A> {
     }
 }
 
-/// Passes the runs that go on in a run's entry, and the one after them. Answers the page behind the
+/// Passes the runs that go on in a run's entry, and the one after them. Answers the page after the
 /// entry, and that run.
 #[inline(always)]
 fn end_of_entry<'a, A: Allocator + Copy>(

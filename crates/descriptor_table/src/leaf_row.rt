@@ -1,11 +1,11 @@
 //! A row of leaves, and spare leaves.
-ghost use Rattle.std.specs.Prelude.{◌≡◌, ℕ, ◌+◌, ◌-◌, ◌*◌, ◌<◌, ◌≤◌, ◌^◌, false, IsTrue, length, set, take, drop, IfOk, OnOk, OnErr};
+ghost use Rattle.std.specs.Prelude.{◌≡◌, ℕ, ◌+◌, ◌-◌, ◌*◌, ◌<◌, ◌≤◌, ◌^◌, false, IsTrue, length, set, take, drop, vec_capacity, IfOk, OnOk, OnErr};
 ghost use Rattle.page_ranges.specs.MemoryTypes.{page_count};
 ghost use Rattle.page_ranges.specs.Runs.{pages_of, AreMaximalRuns, AreRuns};
 ghost use Rattle.descriptor_table.specs.Leaves.{entry_count, leaf_at, runs_in, AreLeaves};
 ghost use Rattle.descriptor_table.specs.LeafBorders.{AreApart};
 ghost use Rattle.descriptor_table.specs.LeafChanges.{Retypes};
-ghost use Rattle.descriptor_table.specs.LeafRows.{entries_in_three, entries_in_two, excess_at_border, excess_of, runs_from, runs_up_to, AreFew, AreMaximalFrom, BeginFrom, ChangesTwo, JoinsLeaves, KeepsEnds, KeepsPages, Takes};
+ghost use Rattle.descriptor_table.specs.LeafRows.{entries_in_three, entries_in_two, excess_at_border, excess_of, merged_at, runs_at_border, runs_from, runs_up_to, AreFew, AreMaximalFrom, BeginFrom, JoinsBorder, KeepsPages, Takes};
 ghost use Rattle.descriptor_table.specs.Reserves.{cut_count};
 ghost use Rattle.descriptor_table.specs.Tables.{EndBy};
 
@@ -33,11 +33,12 @@ const MERGED: usize = 24;
 
 /// How many runs a leaf has above 16.
 #[inline(always)]
-fn excess_in<A: Allocator + Copy>(leaf: &Leaf<A>) -> usize
-    ensures value { result ≡ length leaf.now - 16 }
+fn excess_in<A: Allocator + Copy>(leaves: &[Leaf<A>], at: usize) -> usize
+    requires { at < length leaves.now }
+    ensures value { result ≡ length (leaf_at leaves.now at) - 16 }
     ensures few { result ≤ 16 }
 {
-    leaf.len().saturating_sub(HALF)
+    leaves[at].len().saturating_sub(HALF)
 }
 
 /// The excess of a leaf and of the one before it.
@@ -46,7 +47,7 @@ fn excess_beside<A: Allocator + Copy>(leaves: &[Leaf<A>], at: usize) -> usize
     requires { (0 < at) × (at < length leaves.now) }
     ensures { result ≡ excess_at_border at leaves.now }
 {
-    excess_in(&leaves[at - 1]) + excess_in(&leaves[at])
+    excess_in(leaves, at - 1) + excess_in(leaves, at)
 }
 
 /// Whether a leaf and the one before it have few enough runs to be merged.
@@ -118,21 +119,36 @@ fn is_open<A: Allocator + Copy>(leaves: &[Leaf<A>], at: usize) -> bool
 }
 
 /// Joins the two runs at the border before a leaf if they should be one.
-fn join_at<A: Allocator + Copy>(leaves: &mut [Leaf<A>], at: usize, joins: u8)
-    requires leaves { AreLeaves leaves.old }
-    requires runs { AreRuns (runs_in leaves.old) }
-    requires ends { EndBy page_count (runs_in leaves.old) }
-    requires bound { (0 < at) × (at < length leaves.old) }
-    requires below { AreMaximalRuns (runs_up_to at leaves.old) }
-    ensures leaves { ChangesTwo at leaves.old leaves.new }
-    ensures pages { KeepsPages (at + 1) leaves.old (at + 1) leaves.new }
-    ensures order { JoinsLeaves at leaves.old leaves.new }
-    ensures ends { KeepsEnds (at + 1) leaves.old leaves.new }
-    ensures count { length (leaf_at leaves.new (at - 1)) ≡ length (leaf_at leaves.old (at - 1)) }
-    ensures fewer { length (leaf_at leaves.new at) ≤ length (leaf_at leaves.old at) }
+fn join_at<A: Allocator + Copy>(leaves: &mut Vec<Leaf<A>, A>, at: usize, joins: u8)
+    requires leaves { AreLeaves leaves.old.items }
+    requires runs { AreRuns (runs_in leaves.old.items) }
+    requires ends { EndBy page_count (runs_in leaves.old.items) }
+    requires bound { (0 < at) × (at < length leaves.old.items) }
+    requires below { AreMaximalRuns (runs_up_to at leaves.old.items) }
+    ensures joined { JoinsBorder at leaves.old.items leaves.new.items }
+    ensures capacity { vec_capacity leaves.new ≡ vec_capacity leaves.old }
 {
-    let (below, above) = leaves.split_at_mut(at);
+    let (below, above) = leaves.as_mut_slice().split_at_mut(at);
     below[at - 1].join(&mut above[0], joins);
+}
+
+/// Merges a leaf into the one before it, and puts it among the spare leaves.
+fn merge_at<A: Allocator + Copy>(
+    leaves: &mut Vec<Leaf<A>, A>,
+    spare: &mut Vec<Leaf<A>, A>,
+    at: usize,
+)
+    requires bound { (0 < at) × (at < length leaves.old.items) }
+    requires fits { runs_at_border at leaves.old.items ≤ 32 }
+    requires room { length spare.old.items < vec_capacity spare.old }
+    ensures leaves { leaves.new.items ≡ merged_at at leaves.old.items }
+    ensures spare { length spare.new.items ≡ length spare.old.items + 1 }
+    ensures capacity { vec_capacity leaves.new ≡ vec_capacity leaves.old }
+    ensures spare_capacity { vec_capacity spare.new ≡ vec_capacity spare.old }
+{
+    let leaf = leaves.remove(at);
+    leaves[at - 1].append(leaf.runs());
+    spare.push_reserved(leaf);
 }
 
 /// A row of leaves, and spare leaves, whose contents are unused.
@@ -164,21 +180,20 @@ impl<A: Allocator + Copy> LeafRow<A> {
     pub(crate) fn from_runs(alloc: A, runs: &[Run]) -> Result<LeafRow<A>, AllocError>
         requires runs { AreRuns runs.now }
         requires ends { EndBy page_count runs.now }
-        ensures { IfOk result (λ r. runs_in r.leaves ≡ runs.now) }
+        ensures runs { IfOk result (λ r. runs_in r.leaves ≡ runs.now) }
+        ensures excess { IfOk result (λ r. excess_of r.leaves ≡ 0) }
     {
         let entries = count_entries(runs);
+        let parts = Vec::with_capacity(alloc, LEAF_SIZE)?;
         let mut leaves = Vec::new(alloc);
         let mut rest = runs;
         while !rest.is_empty() {
             let count = rest.len().min(HALF);
             leaves.reserve(1)?;
-            let mut leaf = Leaf::empty(alloc)?;
-            leaf.fill(&rest[..count]);
-            leaves.push_reserved(leaf);
+            leaves.push_reserved(Leaf::from_slice(alloc, &rest[..count])?);
             rest = &rest[count..];
         }
         let spare = Vec::with_capacity(alloc, leaves.len())?;
-        let parts = Vec::with_capacity(alloc, LEAF_SIZE)?;
         Ok(LeafRow {
             leaves,
             spare,
@@ -220,7 +235,7 @@ impl<A: Allocator + Copy> LeafRow<A> {
         let (used, spare) = (self.leaves.len(), self.spare.len());
         self.leaves.reserve(spare + 1)?;
         self.spare.reserve(used + 1)?;
-        let leaf = Leaf::empty(*self.leaves.allocator())?;
+        let leaf = Leaf::from_slice(*self.leaves.allocator(), &[])?;
         self.spare.push_reserved(leaf);
         Ok(())
     }
@@ -298,9 +313,9 @@ impl<A: Allocator + Copy> LeafRow<A> {
         let window = window_of(leaf.runs(), retyping.range, Some(hint));
         let meets = meets_border(window, leaf.len());
         let before = continued_beside(self.leaves.as_slice(), at, meets);
-        let less_excess = excess_in(&self.leaves[at]);
+        let less_excess = excess_in(self.leaves.as_slice(), at);
         let (less, more) = self.leaves[at].retype(&mut self.parts, window, retyping, joins);
-        let more_excess = excess_in(&self.leaves[at]);
+        let more_excess = excess_in(self.leaves.as_slice(), at);
         let after = continued_beside(self.leaves.as_slice(), at, meets);
         self.entries = self.entries + before + more - less - after;
         self.excess = self.excess - less_excess + more_excess;
@@ -329,15 +344,13 @@ impl<A: Allocator + Copy> LeafRow<A> {
         }
         let joins = most_joins(self.leaves.len(), MemoryType::conventional());
         let before = excess_beside(self.leaves.as_slice(), at);
-        join_at(self.leaves.as_mut_slice(), at, joins);
+        join_at(&mut self.leaves, at, joins);
         if !are_few(self.leaves.as_slice(), at) {
             self.excess = self.excess - before + excess_beside(self.leaves.as_slice(), at);
             return at + 1;
         }
-        let leaf = self.leaves.remove(at);
-        self.leaves[at - 1].append(leaf.runs());
-        self.spare.push_reserved(leaf);
-        self.excess = self.excess - before + excess_in(&self.leaves[at - 1]);
+        merge_at(&mut self.leaves, &mut self.spare, at);
+        self.excess = self.excess - before + excess_in(self.leaves.as_slice(), at - 1);
         at
     }
 

@@ -38,7 +38,7 @@ pub struct Leaf<A: Allocator = Global> {
     ends_free: bool,
     // How often the summary was joined with that of changed runs since it was made.
     changes: u8,
-    // How many runs there are. The array has that too, but behind them, in another line of the cache.
+    // How many runs there are. The array has that too, but after them, in another line of the cache.
     count: u8,
     runs: Box<ArrayVec<Run, LEAF_SIZE>, A>,
 }
@@ -57,11 +57,12 @@ impl<A: Allocator> Model for Leaf<A> {
 }
 
 impl<A: Allocator + Copy> Leaf<A> {
-    /// A leaf with no runs.
-    pub(crate) fn empty(alloc: A) -> Result<Leaf<A>, AllocError>
-        ensures { IfOk result (λ leaf. leaf ≡ []) }
+    /// A leaf with some runs.
+    pub(crate) fn from_slice(alloc: A, runs: &[Run]) -> Result<Leaf<A>, AllocError>
+        requires { length runs.now ≤ 32 }
+        ensures { IfOk result (λ leaf. leaf ≡ runs.now) }
     {
-        Ok(Leaf {
+        let mut leaf = Leaf {
             first: 0,
             summary: Summary::none(),
             marks: 0,
@@ -70,7 +71,9 @@ impl<A: Allocator + Copy> Leaf<A> {
             changes: 0,
             count: 0,
             runs: Box::new(alloc, ArrayVec::new())?,
-        })
+        };
+        leaf.splice(0, 0, runs);
+        Ok(leaf)
     }
 
     /// The first page of the first run.
@@ -101,7 +104,7 @@ impl<A: Allocator + Copy> Leaf<A> {
     }
 
     /// Replaces some of the leaf's runs by others, and does not leave it empty. Its summary is joined with that
-    /// of the changed runs, and made anew after `most_joins` joins; none is kept for `ALLOWS_ALL`.
+    /// of the changed runs, and recomputed after `most_joins` joins; none is kept for `ALLOWS_ALL`.
     pub(crate) fn replace(&mut self, low: usize, high: usize, parts: &[Run], most_joins: u8)
         requires order { low ≤ high }
         requires bound { high ≤ length self.old }

@@ -20,7 +20,7 @@ pub(crate) struct Retyping {
     pub(crate) owner: Owner,
 }
 
-/// How often a leaf's summary is joined with that of changed runs before it is made anew, by the number
+/// How often a leaf's summary is joined with that of changed runs before it is recomputed, by the number
 /// of leaves and the type that pages get. A summary that is only joined allows more than the runs: with
 /// few leaves a search opens most of them anyway, with many it opens some in vain. Pages that become
 /// free leave little of the runs before them that is not allowed anyway.

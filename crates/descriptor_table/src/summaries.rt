@@ -231,7 +231,7 @@ fn joined_near(summary: Summary, runs: &[Run], low: usize, high: usize) -> Summa
 pub(crate) const ALLOWS_ALL: u8 = u8::MAX;
 
 /// The summary of runs once those between two indices have changed, and how often it was joined since it was
-/// made: it is made anew after a number of joins.
+/// made: it is recomputed after a number of joins.
 pub(crate) fn summary_changed(
     summary: Summary,
     joins: u8,

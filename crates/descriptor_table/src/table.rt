@@ -35,7 +35,7 @@ pub struct RunTable<A: Allocator = Global> {
     // For how many changes leaves for later have room.
     reserved: usize,
     // Where a range began that was asked for last: the index of a leaf, and that of a run in it.
-    likely: (usize, usize),
+    hint: (usize, usize),
 }
 
 impl<A: Allocator> Model for RunTable<A> {
@@ -62,12 +62,11 @@ impl<A: Allocator + Copy> RunTable<A> {
         for run in runs {
             push_joined(&mut joined, *run)?;
         }
-        let mut row = LeafRow::from_runs(alloc, joined.as_slice())?;
-        row.reserve(0)?;
+        let row = LeafRow::from_runs(alloc, joined.as_slice())?;
         Ok(RunTable {
             row,
             reserved: 0,
-            likely: (0, 0),
+            hint: (0, 0),
         })
     }
 
@@ -106,7 +105,7 @@ impl<A: Allocator + Copy> RunTable<A> {
                 mtype,
                 owner,
             };
-            self.row.change(&retyping, self.likely);
+            self.row.change(&retyping, self.hint);
         }
         self.reserved -= 1;
     }
@@ -215,9 +214,9 @@ impl<A: Allocator + Copy> RunTable<A> {
         ensures owned { IsTrue result ↔ AllInRange self.old.pages range (IsOwnedBy owner) }
         ensures table { self.new ≡ self.old }
     {
-        self.likely = place_of(self.row.leaves(), range.first);
+        self.hint = place_of(self.row.leaves(), range.first);
         let test = PageTest::OwnedBy(owner);
-        holds_all(self.row.leaves(), self.likely, range, test) || self.all_owned(range, owner)
+        holds_all(self.row.leaves(), self.hint, range, test) || self.all_owned(range, owner)
     }
 
     /// How many entries the memory map has.

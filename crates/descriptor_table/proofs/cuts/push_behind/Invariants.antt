@@ -8,7 +8,7 @@ use Rattle.descriptor_table.specs.Reserves.{cut_count}
 use Rattle.descriptor_table.specs.Tables.{AreMaximalUpTo}
 use Rattle.descriptor_table.proofs.cuts.push_behind.Given as goal
 
--- the runs so far, retyped, behind those that were there, and what is to come begins where they end or above
+-- the runs so far, retyped, after those that were there, and what is to come begins where they end or above
 abbrev pub invariant-loop-run : goal.invariant-loop-run
 invariant-loop-run g l = record {
   pages : pages_of l.parts.items ≡ pages_of l.initial.parts.items ++ retyped l.range l.mtype l.owner (pages_of (take l.run-index l.runs));

@@ -57,7 +57,7 @@ returns-then-high-count g c =
     ∙ ap₂ (λ xs ys. xs ++ ys) (kept ∙ ap₂ (λ xs ys. written xs low (length all) ys) same front ∙ ap (λ k. written old.items low k (take (high - low) parts)) here) c.split_at.ensures.back
     ∙ at_end old.items low high parts c.requires.order last
 
--- more, in front of others
+-- more, before others
 pub returns : goal.returns
 returns g c =
     let old = c.args.runs.now.items in

@@ -21,7 +21,7 @@ returns-else-last-page-clause-below c =
     λ k d low high.
     omega (arith, ends_before runs k index d d c.requires high (omega arith), c.count_beginning_below-count.ensures.below index d (omega arith) (omega arith))
 
--- it ends at the page or above, and those behind it end no lower
+-- it ends at the page or above, and those after it end no lower
 pub returns-else-last-page-clause-above : goal.returns-else-last-page-clause-above
 returns-else-last-page-clause-above c =
     let runs = c.args.runs.now in

@@ -19,7 +19,7 @@ returns-then-page-run-clause-above c =
     λ k d low high.
     omega (arith, firsts_rise runs c.requires c.args.likely k d low high, ap (λ s. s.range.first) c.index-runs-likely.is, ap (λ s. s.range.first) (get_or_default runs c.args.likely d run (omega arith)))
 
--- those up to one that begins below the page and ends there or above, and those behind it
+-- those up to one that begins below the page and ends there or above, and those after it
 pub returns-then-page-run-2-clause-below : goal.returns-then-page-run-2-clause-below
 returns-then-page-run-2-clause-below c =
     let runs = c.args.runs.now in

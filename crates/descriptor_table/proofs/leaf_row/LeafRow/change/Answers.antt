@@ -1,9 +1,9 @@
 use Rattle.std.proofs.Common.{◌+◌, ◌≤◌, [], length, length-append, take, drop, ap, sym, refl, subst, ◌∙◌, arith}
 use Rattle.page_ranges.specs.Runs.{AreMaximalRuns}
 use Rattle.std.specs.List.{AllWithin}
+use Rattle.std.proofs.lemmas.List.{length-set}
 use Rattle.descriptor_table.specs.Leaves.{first_page, leaf_at, runs_in}
 use Rattle.descriptor_table.proofs.ChangedLeaves.{few_cuts, first_leaf, leaf_maximal, parts_at, same_pages, so_far_all, so_far_none, step_back, step_cuts, step_left, step_pages}
-use Rattle.descriptor_table.proofs.LeafChanged.{set_length}
 use Rattle.descriptor_table.proofs.LeafLists
 use Rattle.descriptor_table.proofs.Meetings.{maximal-left, maximal-right}
 use Rattle.descriptor_table.proofs.SplitLeaves.{excess_at}
@@ -58,7 +58,7 @@ loop-hint-preserved g c =
     let settled = c.settle-at.ensures in
     let was = c.loop-hint.invariant in
     record {
-      bound = settled.bound (omega (arith, made.bound, ap length new.leaves, set_length ms at (leaf_at ns at)));
+      bound = settled.bound (omega (arith, made.bound, ap length new.leaves, length-set ms at (leaf_at ns at)));
       done = settled.passed;
       left = step_left ls ms ns qs at k made.bound made.before made.runs new.leaves settled.rest was.left;
       pages = step_pages ls ms ns qs at k made.bound made.before made.runs new.leaves settled.rest r.range r.mtype r.owner new.pages settled.pages ∙ was.pages;

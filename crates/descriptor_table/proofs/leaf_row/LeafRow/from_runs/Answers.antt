@@ -11,16 +11,16 @@ pub loop-rest-preserved : goal.loop-rest-preserved
 loop-rest-preserved g c =
     let ls = c.loop-rest.leaves.items in
     let new = c.push_reserved.new.self.items in
-    let leaf = c.fill.new.self in
+    let leaf = c.in_ok-from_slice.field-0 in
     let rest = c.loop-rest.rest.now in
     let count = c.min-count.result in
     let put = c.push_reserved.ensures.items ∙ ap (λ ms. ms ++ leaf ∷ []) c.reserve.ensures.items in
     let was = c.loop-rest.invariant in
     let some = eqb-false (length rest) 0 (sym c.is_empty.ensures ∙ c.loop-rest-test.true) in
     record {
-      runs = filled_runs ls new leaf rest count put c.fill.ensures c.args.runs.now _ (omega arith) was.runs;
-      leaves = filled_leaves ls new leaf rest count put c.fill.ensures (omega (arith, some)) (omega arith) (omega arith) was.leaves;
-      excess = filled_excess ls new leaf rest count put c.fill.ensures (omega arith) (omega arith) was.excess;
+      runs = filled_runs ls new leaf rest count put c.in_ok-from_slice.ensures c.args.runs.now _ (omega arith) was.runs;
+      leaves = filled_leaves ls new leaf rest count put c.in_ok-from_slice.ensures (omega (arith, some)) (omega arith) (omega arith) was.leaves;
+      excess = filled_excess ls new leaf rest count put c.in_ok-from_slice.ensures (omega arith) (omega arith) was.excess;
     }
 
 pub invariant_of-result : goal.invariant_of-result
