@@ -76,8 +76,8 @@ abbrev pub Outcome : Type 0 → Book → Book → Type 0
 Outcome Fits old new = (new ≡ old) ⊎ IsChanged Fits old new
 
 -- so it is for however many changes it has memory reserved
-with_reserve : (Fits : Type 0) (old new : Book) (frees ends prepared held : ℕ) → IsChanged Fits old new → IsChanged Fits old (record new { frees = frees; ends = ends; prepared = prepared; held = held })
-with_reserve Fits old new frees ends prepared held is = record { up = is.up; proper = is.proper; differs = is.differs; typed = is.typed; fields = is.fields; grows = is.grows; certifies = is.certifies }
+with_reserve : (Fits : Type 0) (old new : Book) (reserved frees ends held : ℕ) → IsChanged Fits old new → IsChanged Fits old (record new { reserved = reserved; frees = frees; ends = ends; held = held })
+with_reserve Fits old new reserved frees ends held is = record { up = is.up; proper = is.proper; differs = is.differs; typed = is.typed; fields = is.fields; grows = is.grows; certifies = is.certifies }
 
 allocated : (b : Book) (range : PageRange) (t : ℕ) (o : Owner) → IsProperMemory b.memory → is_bad_type t ≡ false → 0 < range.pages → IsConventional (page_at b.memory range.first) → IsChanged (t < 2 ^ 32) b (changed_book range t o b)
 allocated b range t o proper good some free =

@@ -54,7 +54,7 @@ most_calls = 0x3fffffffffffffff
 abbrev pub first_state : MachineValue → State
 first_state machine = record {
   parts = record {
-    book = new_book machine.granule (pages_of machine.runs);
+    book = new_book machine.granule (record { pages = pages_of machine.runs; reserved = 0 });
     pools = [];
     lists = no_lists;
   };

@@ -20,7 +20,7 @@ use Rattle.page_ranges.proofs.WholeGranules.{for_granules, mod_one, rounded_one,
 use Rattle.placement_certificate.specs.declared.certificates.Request.{Request}
 use Rattle.placement_certificate.specs.Placement.{IsProperRequest, IsPermittedStart}
 use Rattle.page_services.specs.declared.page_book.Placed.{Placed}
-use Rattle.page_services.specs.PageRules.{Book, new_book, IsInGranule, HasWholeGranules, IsInGranules, range_from, IsAligned, changed_book, whole_pages, whole_request, if_counted, Choice, IsBestChoice, FindsNoStart, RefusesPages, PlacesPages, any_pages, max_address, fixed_address, IsValidRequest, placement_request, IsFree, IsPlaced, AllocatesPages, IsValidRange, IsAllocated, granule_of, freed_book, freed_range, FreesPages, placed_book, pool_request, TakesForPool, given_back, GivesFromPool}
+use Rattle.page_services.specs.PageRules.{Book, IsInGranule, HasWholeGranules, IsInGranules, range_from, IsAligned, changed_book, whole_pages, whole_request, if_counted, Choice, IsBestChoice, FindsNoStart, RefusesPages, PlacesPages, any_pages, max_address, fixed_address, IsValidRequest, placement_request, IsFree, IsPlaced, AllocatesPages, IsValidRange, IsAllocated, granule_of, freed_book, freed_range, FreesPages, placed_book, pool_request, TakesForPool, given_back, GivesFromPool}
 use Rattle.page_services.proofs.Choices.{Permits}
 
 -- ---- pages of one granule
@@ -128,9 +128,6 @@ unowned (Some x) other h = other h.0
 pub unowned_granules : (g : ℕ) (m : List Page) → ((k : ℕ) → ¬ IsOwnedBy Pages (page_at m k)) → HasWholeGranules g m
 unowned_granules g m other k j same was = absurd (unowned (page_at m k) (other k) was)
 
-pub new_book_granules : (g : ℕ) (m : List Page) → IsGranule g → ((k : ℕ) → ¬ IsOwnedBy Pages (page_at m k)) → IsInGranules (new_book g m)
-new_book_granules g m is other = record { granule = is; whole = unowned_granules g m other }
-
 given_page : (m : List Page) (k : ℕ) (p : Option Page) → AllByRecursion (λ x. x.owner ≡ Given) m → page_at m k ≡ p → ¬ IsOwnedBy Pages p
 given_page m k None all at owned = owned
 given_page m k (Some x) all at owned = let given : x.owner ≡ Given = page_at-all (λ x. x.owner ≡ Given) m k x all at in absurd cc
@@ -148,11 +145,11 @@ free_present : (p : Option Page) → IsConventional p → IsPresent p
 free_present None free = absurd free
 free_present (Some x) free = tt
 
--- pages of a type and an owner are put in a free range that fills granules of the type
 -- what memory is reserved is no matter of granules
-pub reserved_granules : (b : Book) (frees ends prepared held : ℕ) → IsInGranules b → IsInGranules (record b { frees = frees; ends = ends; prepared = prepared; held = held })
-reserved_granules b frees ends prepared held is = record { granule = is.granule; whole = is.whole }
+pub reserved_granules : (b : Book) (reserved frees ends held : ℕ) → IsInGranules b → IsInGranules (record b { reserved = reserved; frees = frees; ends = ends; held = held })
+reserved_granules b reserved frees ends held is = record { granule = is.granule; whole = is.whole }
 
+-- pages of a type and an owner are put in a free range that fills granules of the type
 pub taken_granules : (b : Book) (range : PageRange) (t : ℕ) (o : Owner) → range.first % granule_for t b.granule ≡ 0 → range.pages % granule_for t b.granule ≡ 0 → AllInRange b.memory range IsConventional → IsInGranules b → IsInGranules (changed_book range t o b)
 taken_granules b range t o start filled free is =
     let closed : IsClosed b.granule b.memory range = λ k j same there was. absurd (free_is_in_none (page_at b.memory j) (free j there.0 there.1) was) in
@@ -518,7 +515,7 @@ uncounted_none b r fits e plain p permitted = let none : Some r ≡ None = sym (
 
 refused_uncounted : (b : Book) (o : Option Request) → ¬ (o ≡ None) → ((r : Request) → o ≡ Some r → r.limit ≤ page_count) → option_and_then if_counted o ≡ None → RefusesPages b o
 refused_uncounted b None some fits e = absurd (some refl)
-refused_uncounted b (Some r) some fits e = λ prepared. uncounted_none b r (fits r refl) e
+refused_uncounted b (Some r) some fits e = λ has. uncounted_none b r (fits r refl) e
 
 one_asked : (b c : Bool) (x y : Request) → (b ≡ true) ⊎ (c ≡ true) → ¬ (cond b (Some x) (cond c (Some y) None) ≡ None)
 one_asked true c x y one e = cc

@@ -1,5 +1,5 @@
 -- The rules of AllocatePages, of FreePages and of the pool's pages on a memory.
-use Rattle.std.specs.Prelude.{◌≡◌, ℕ, ◌+◌, ◌-◌, ◌*◌, ◌<◌, ◌≤◌, ◌/◌, ◌%◌, ◌==◌, Bool, true, false, List, Option, Some, None, Result, Ok, Err, option_map, if◌then◌else◌, min}
+use Rattle.std.specs.Prelude.{◌≡◌, ℕ, ◌+◌, ◌-◌, ◌*◌, ◌<◌, ◌≤◌, ◌/◌, ◌%◌, ◌==◌, Bool, true, false, List, Option, Some, None, Result, Ok, Err, option_map, if◌then◌else◌, min, max}
 use Rattle.page_ranges.specs.declared.ranges.Owner.{Owner}
 use Rattle.page_ranges.specs.declared.ranges.Owner.TheVariants.{Given, Pages, Pool}
 use Rattle.page_ranges.specs.declared.ranges.PageRange.{PageRange}
@@ -16,44 +16,44 @@ use Rattle.page_services.specs.declared.page_book.ChosenStart.{ChosenStart}
 use Rattle.page_services.specs.declared.page_book.Placed.{Placed}
 
 -- the memory, the map key, which is 1 at first and one more after each call that changed the type
--- of a page, the granule of the machine, whether certificates are returned, for how many calls of
--- FreePages and for how many ends of extents of the pool memory is reserved, for how many placements
--- and the frees of what they place it is reserved ahead, and how many pages AllocatePages placed
--- that FreePages has not freed
+-- of a page, the granule of the machine, whether certificates are returned, for how many changes of
+-- the memory the table has memory reserved, of these how many are for calls of FreePages and how many
+-- for ends of extents of the pool, and how many pages AllocatePages placed that FreePages has not
+-- freed
 pub record Book : Type 0 where
   pub memory : List Page
   pub key : ℕ
   pub granule : ℕ
   pub certifies : Bool
+  pub reserved : ℕ
   pub frees : ℕ
   pub ends : ℕ
-  pub prepared : ℕ
   pub held : ℕ
 
 -- the book of a table, with all else that it has
-abbrev pub book_of : Table → ℕ → ℕ → Bool → ℕ → ℕ → ℕ → ℕ → Book
-book_of t key granule certifies frees ends prepared held = record {
+abbrev pub book_of : Table → ℕ → ℕ → Bool → ℕ → ℕ → ℕ → Book
+book_of t key granule certifies frees ends held = record {
   memory = t.pages;
   key = key;
   granule = granule;
   certifies = certifies;
+  reserved = t.reserved;
   frees = frees;
   ends = ends;
-  prepared = prepared;
   held = held;
 }
 
--- the book of a machine with a granule and a memory in which no type has changed, which returns
--- certificates
-abbrev pub new_book : ℕ → List Page → Book
-new_book granule m = record {
-  memory = m;
+-- the book of a machine with a granule and a table of memory in which no type has changed, which
+-- returns certificates
+abbrev pub new_book : ℕ → Table → Book
+new_book granule t = record {
+  memory = t.pages;
   key = 1;
   granule = granule;
   certifies = true;
+  reserved = t.reserved;
   frees = 0;
   ends = 0;
-  prepared = 0;
   held = 0;
 }
 
@@ -61,10 +61,14 @@ new_book granule m = record {
 abbrev pub certifying : Bool → Book → Book
 certifying certifies b = record b { certifies = certifies }
 
--- the book with memory reserved ahead for a number of placements more, and for the frees of what they
--- place
+-- the book with memory reserved for a number of placements more, and for the frees of what they place
 abbrev pub preparing : ℕ → Book → Book
-preparing placements b = record b { prepared = b.prepared + placements }
+preparing placements b = record b { reserved = b.reserved + 2 * placements }
+
+-- Memory is reserved for a placement and for the free of what it places, besides what the counts of
+-- frees and of ends take.
+abbrev pub HasReserve : Book → Type 0
+HasReserve b = b.frees + b.ends + 2 ≤ b.reserved
 
 -- the page was placed by AllocatePages with a type that fills granules
 abbrev pub IsInGranule : Option Page → Type 0
@@ -81,10 +85,9 @@ pub record IsInGranules (b : Book) : Type 0 where
   pub granule : IsGranule b.granule
   pub whole : HasWholeGranules b.granule b.memory
 
--- Granules are whole, and memory is reserved for all changes that the book counts: a placement that is
--- prepared takes one of its own and one for its free.
-abbrev pub IsKept : Book → ℕ → Type 0
-IsKept b reserved = IsInGranules b × (b.frees + b.ends + 2 * b.prepared ≤ reserved)
+-- Granules are whole, and memory is reserved for all frees and ends of extents that the book counts.
+abbrev pub IsKept : Book → Type 0
+IsKept b = IsInGranules b × (b.frees + b.ends ≤ b.reserved)
 
 -- a number of pages from the page of an address on
 abbrev pub range_from : ℕ → ℕ → PageRange
@@ -97,33 +100,41 @@ IsAligned address = address % page_size ≡ 0
 abbrev pub changed_book : PageRange → ℕ → Owner → Book → Book
 changed_book range t o b = record b { memory = retyped range t o b.memory; key = b.key + 1 }
 
--- the book after pages were placed in a range for an owner: memory is reserved to free them, and that
--- for one placement is taken where it is reserved ahead
+-- for how many changes memory is reserved after a placement: what is missing for it and for the free
+-- of what it places is reserved first, and one change is taken
+abbrev pub placed_reserve : Book → ℕ
+placed_reserve b = max b.reserved (b.frees + b.ends + 2) - 1
+
+-- the book after pages were placed in a range for an owner: memory is reserved to free them
 abbrev pub placed_book : PageRange → ℕ → Owner → Book → Book
 placed_book range t Given b = changed_book range t Given b
 placed_book range t Pages b = record (changed_book range t Pages b) {
+  reserved = placed_reserve b;
   frees = b.frees + 1;
-  prepared = b.prepared - 1;
   held = min page_count (b.held + range.pages);
 }
 placed_book range t Pool b =
-    record (changed_book range t Pool b) { ends = b.ends + 1; prepared = b.prepared - 1 }
+    record (changed_book range t Pool b) { reserved = placed_reserve b; ends = b.ends + 1 }
 
 -- the book after FreePages freed a range: it takes memory that is reserved for one call, if there
 -- is, and it is reserved for no more calls than there are pages to free
 abbrev pub freed_book : PageRange → Book → Book
 freed_book range b = record (changed_book range conventional Given b) {
+  reserved = b.reserved - min b.frees 1;
   frees = min (b.frees - 1) (b.held - range.pages);
   held = b.held - range.pages;
 }
 
 -- the book after an extent of the pool ended, which takes memory in the same way
 abbrev pub ended_book : PageRange → Book → Book
-ended_book range b = record (changed_book range conventional Given b) { ends = b.ends - 1 }
+ended_book range b = record (changed_book range conventional Given b) {
+  reserved = b.reserved - min b.ends 1;
+  ends = b.ends - 1;
+}
 
--- memory ran out for a call, for which none is reserved, and the book is left
-abbrev pub RunsOut : ℕ → Book → Status → Book → Type 0
-RunsOut reserved b status new = (status ≡ OutOfResources) × (new ≡ b) × (reserved ≡ 0)
+-- Memory ran out for a call and the book is left; a fact says that none was reserved for the call.
+abbrev pub RunsOut : Type 0 → Book → Status → Book → Type 0
+RunsOut HasNone b status new = (status ≡ OutOfResources) × (new ≡ b) × HasNone
 
 -- ---- requests
 
@@ -180,17 +191,17 @@ pub record IsChosenOn {A : Type 0} (b : Book) (c : ChosenStart A) : Type 0 where
 abbrev pub FindsNoStart : Book → Request → Type 0
 FindsNoStart b r = b.certifies ≡ false → (p : ℕ) → ¬ IsPermittedStart b.memory r p
 
--- What is known where OUT_OF_RESOURCES is answered: with memory reserved ahead for a placement, no
--- start is permitted for the request, unless a certificate takes memory. A call that names its
--- address leaves no request, and none is refused so while memory is reserved ahead.
+-- What is known where OUT_OF_RESOURCES is answered: with memory reserved for a placement, no start is
+-- permitted for the request, unless a certificate takes memory. A call that names its address leaves
+-- no request, and none is refused so while memory is reserved for a placement.
 abbrev pub RefusesPages : Book → Option Request → Type 0
-RefusesPages b (Some r) = 0 < b.prepared → FindsNoStart b r
-RefusesPages b None = b.prepared ≡ 0
+RefusesPages b (Some r) = HasReserve b → FindsNoStart b r
+RefusesPages b None = ¬ HasReserve b
 
 -- What is answered where pages of an owner are placed for a request, and the book after it: they
 -- begin at a start that was chosen, with the type of the request and the owner. OUT_OF_RESOURCES,
 -- which leaves the book, means that no start is permitted or that memory ran out, which it does only
--- for a certificate or where none is reserved ahead.
+-- for a certificate or where none is reserved for a placement.
 abbrev pub PlacesPages : {A : Type 0} → Choice → Book → Request → Owner → Result (Placed A) Status
     → Book → Type 0
 PlacesPages Chosen b r o (Ok placed) new =
@@ -240,8 +251,8 @@ IsPlaced Chosen b None t pages memory placed =
     IsFree b t pages memory × (placed.address ≡ memory) × (placed.certificate ≡ None)
 
 -- What AllocatePages answers, and the book after it. A refusal leaves the book. OUT_OF_RESOURCES
--- means that memory ran out, which it does only for a certificate or where none is reserved ahead;
--- for the kinds that name no address it may mean that no start is permitted.
+-- means that memory ran out, which it does only for a certificate or where none is reserved for a
+-- placement; for the kinds that name no address it may mean that no start is permitted.
 abbrev pub AllocatesPages : {A : Type 0} → Choice → Book → ℕ → ℕ → ℕ → ℕ → Result (Placed A) Status
     → Book → Type 0
 AllocatesPages Chosen b kind t pages memory (Ok placed) new =

@@ -5,7 +5,7 @@ ghost use Rattle.page_ranges.specs.MemoryTypes.{conventional, is_bad_type, page_
 ghost use Rattle.page_ranges.specs.Memory.{page_at, IsPresent, IsOwnedBy, AllInRange};
 ghost use Rattle.page_ranges.specs.Granules.{IsGranule, granule_for};
 ghost use Rattle.placement_certificate.specs.Placement.{IsProperRequest};
-ghost use Rattle.page_services.specs.PageRules.{AllocatesPages, IsBestChoice, PlacesPages, FreesPages, FindsNoStart, HasWholeGranules, IsChosenOn, IsInGranules, TakesForPool, GivesFromPool, RunsOut, certifying, changed_book, ended_book, fixed_address, freed_book, freed_range, granule_of, if_counted, new_book, placed_book, placement_request, pool_request, preparing, whole_pages, whole_request};
+ghost use Rattle.page_services.specs.PageRules.{AllocatesPages, IsBestChoice, PlacesPages, FreesPages, FindsNoStart, HasReserve, HasWholeGranules, IsChosenOn, IsInGranules, TakesForPool, GivesFromPool, RunsOut, certifying, changed_book, ended_book, fixed_address, freed_book, freed_range, granule_of, if_counted, new_book, placed_book, placement_request, pool_request, preparing, whole_pages, whole_request};
 
 use descriptor_table::RunTable;
 use page_ranges::{
@@ -104,11 +104,10 @@ pub struct PageBook<A: Allocator = Global> {
     key: u64,
     granule: u64,
     certifies: bool,
-    // For how many calls of FreePages, and for how many ends of extents, the table has memory reserved.
+    // Of the changes for which the table has memory reserved, how many are for calls of FreePages, and how many for
+    // ends of extents. The others serve placements, two changes each.
     frees: usize,
     ends: usize,
-    // For how many placements and the frees of what they place it has memory reserved ahead.
-    prepared: usize,
     // How many pages AllocatePages placed that FreePages has not freed.
     held: u64,
 }
@@ -119,11 +118,10 @@ impl<A: Allocator> Model for PageBook<A> {
     ghost Value = { Book };
 
     ghost view = { λ b.
-        book_of b.table b.key b.granule b.certifies b.frees b.ends b.prepared b.held };
+        book_of b.table b.key b.granule b.certifies b.frees b.ends b.held };
 
     ghost invariant = { λ b. IsKept
-        (book_of b.table b.key b.granule b.certifies b.frees b.ends b.prepared b.held)
-        b.table.reserved };
+        (book_of b.table b.key b.granule b.certifies b.frees b.ends b.held) };
 }
 
 impl<A: Allocator + Copy> PageBook<A> {
@@ -133,7 +131,7 @@ impl<A: Allocator + Copy> PageBook<A> {
     pub fn new(table: RunTable<A>, granule: u64) -> PageBook<A>
         requires granule { IsGranule granule }
         requires whole { HasWholeGranules granule table.pages }
-        ensures { result ≡ new_book granule table.pages }
+        ensures { result ≡ new_book granule table }
     {
         PageBook {
             table,
@@ -142,7 +140,6 @@ impl<A: Allocator + Copy> PageBook<A> {
             certifies: true,
             frees: 0,
             ends: 0,
-            prepared: 0,
             held: 0,
         }
     }
@@ -155,16 +152,15 @@ impl<A: Allocator + Copy> PageBook<A> {
         self.certifies = certifies;
     }
 
-    /// Reserves memory for a number of placements and for the frees of what they place, besides what is reserved
-    /// already: these succeed where the host refuses all memory, but for that of certificates. On an `Err` none is
-    /// reserved.
+    /// Reserves memory for a number of placements and for the frees of what they place, which are two changes each,
+    /// besides what is reserved already: these succeed where the host refuses all memory, but for that of certificates.
+    /// On an `Err` none is reserved.
     pub fn prepare(&mut self, placements: usize) -> Result<(), AllocError>
         ensures ok { OnOk result (self.new ≡ preparing placements self.old) }
         ensures err { OnErr result (self.new ≡ self.old) }
     {
         self.table.reserve(placements.saturating_mul(2))?;
         let _few = self.table.reserved();
-        self.prepared += placements;
         Ok(())
     }
 
@@ -452,7 +448,7 @@ impl<A: Allocator + Copy> PageBook<A> {
         requires whole { IsInGranules self.old
             → IsInGranules (changed_book range mtype owner self.old) }
         ensures { MatchResult result (λ _. self.new ≡ placed_book range mtype owner self.old)
-            (λ e. RunsOut self.old.prepared self.old e self.new) }
+            (λ e. RunsOut (¬ HasReserve self.old) self.old e self.new) }
     {
         let kept = self.table.reserved() - self.frees - self.ends;
         if kept < 2 {
@@ -463,7 +459,6 @@ impl<A: Allocator + Copy> PageBook<A> {
         let _few = self.table.reserved();
         self.table.change(range, mtype, owner);
         self.key += 1;
-        self.prepared = self.prepared.saturating_sub(1);
         if owner == Owner::Pool {
             self.ends += 1;
             return Ok(());
@@ -481,7 +476,7 @@ impl<A: Allocator + Copy> PageBook<A> {
         requires whole { IsInGranules self.old
             → IsInGranules (changed_book range conventional Given self.old) }
         ensures { MatchResult result (λ _. self.new ≡ freed_book range self.old)
-            (λ e. RunsOut self.old.frees self.old e self.new) }
+            (λ e. RunsOut (self.old.frees ≡ 0) self.old e self.new) }
     {
         if self.frees == 0 {
             let Ok(()) = self.table.reserve(1) else {
@@ -508,7 +503,7 @@ impl<A: Allocator + Copy> PageBook<A> {
         requires whole { IsInGranules self.old
             → IsInGranules (changed_book range conventional Given self.old) }
         ensures { MatchResult result (λ _. self.new ≡ ended_book range self.old)
-            (λ e. RunsOut self.old.ends self.old e self.new) }
+            (λ e. RunsOut (self.old.ends ≡ 0) self.old e self.new) }
     {
         if self.ends == 0 {
             let Ok(()) = self.table.reserve(1) else {

@@ -5,9 +5,8 @@ use Rattle.page_ranges.specs.declared.ranges.Owner.TheVariants.{Pool}
 use Rattle.page_ranges.specs.declared.ranges.PageRange.{PageRange}
 use Rattle.page_ranges.specs.declared.statuses.Status.{Status}
 use Rattle.page_ranges.specs.declared.statuses.Status.TheVariants.{InvalidParameter, NotFound, OutOfResources}
-use Rattle.page_ranges.specs.Memory.{Page}
 use Rattle.page_services.specs.declared.page_book.Placed.{Placed}
-use Rattle.page_services.specs.PageRules.{Book, Choice, AllocatesPages, FreesPages, given_back, new_book, placed_book}
+use Rattle.page_services.specs.PageRules.{Book, Choice, AllocatesPages, FreesPages, given_back, placed_book}
 use Rattle.raw_pool.specs.Blocks.{Block, new_block, with_block, without_block}
 use Rattle.pool_services.specs.Extents.{Extent, Place, begins_at, ended, first_fit, has_tail, left_of, new_extent, range_if_ended, replaced, with_blocks, with_extent, with_new_block, without, written, written_in}
 use Rattle.pool_services.specs.PoolRules.{Answer, AllocatesPool, FillsPool, FreesPool, HasReservedEnds, IsPut, WritesPool, given_if}
@@ -68,9 +67,6 @@ ends-left b None = omega arith
 ends-left b (Some range) = ends-back b range
 
 -- ---- what each call leaves
-
-pub new-ends : (granule : ℕ) (m : List Page) → HasReservedEnds (new_book granule m) []
-new-ends granule m = omega arith
 
 pub same-ends : (b new_b : Book) (es new : List Extent) → HasReservedEnds b es → new_b ≡ b → new ≡ es → HasReservedEnds new_b new
 same-ends b new_b es new r g n = subst (λ (x : Book). HasReservedEnds x new) (sym g) (subst (HasReservedEnds b) (sym n) r)
