@@ -153,7 +153,7 @@ impl<A: Allocator + Copy> PageBook<A> {
     }
 
     /// Reserves memory for a number of placements and for the frees of what they place, which are two changes each,
-    /// besides what is reserved already: these succeed where the host refuses all memory, but for that of certificates.
+    /// besides what is reserved already: these succeed where the host refuses all memory, except that of certificates.
     /// On an `Err` none is reserved.
     pub fn prepare(&mut self, placements: usize) -> Result<(), AllocError>
         ensures ok { OnOk result (self.new ≡ preparing placements self.old) }

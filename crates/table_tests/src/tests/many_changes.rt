@@ -38,7 +38,7 @@ fn begins(list: &[Run], index: usize, is_split_by_owner: bool) -> bool {
     }
 }
 
-// How many runs or entries begin in a range or with the page behind it.
+// How many runs or entries begin in a range or with the page after it.
 fn count_beginning(list: &[Run], range: PageRange, is_split_by_owner: bool) -> usize {
     let mut count = 0_usize;
     for page in range.first..range.first.saturating_add(range.pages).saturating_add(1) {

@@ -229,7 +229,7 @@ fn assert_free<A: Allocator + Copy>(rt: &impl Abort, table: &RunTable<A>, entrie
     assert!(rt; left.next_leaf().is_none());
 }
 
-// Puts the first pages of a leaf's free entries of at least a number of pages behind others.
+// Puts the first pages of a leaf's free entries of at least a number of pages after others.
 fn push_down<A: Allocator + Copy>(
     rt: &impl Abort,
     leaf: &mut LeafDown<'_, A>,
