@@ -58,7 +58,7 @@ IsBlockBehind f o = IsBlockAt f.memory (f.entry.first + f.entry.pages) o
 abbrev pub IsFreeBehind : EntryOfMap → Type 0
 IsFreeBehind f = IsConventional (page_at f.memory (f.entry.first + f.entry.pages))
 
--- The answer is the entries of a leaf, which come right after those that are left then, but for some
+-- The answer is the entries of a leaf, which come right after those that are left then, except for some
 -- of no use after them; or all that are left are of no use.
 abbrev pub YieldsLeafEntries : Wanted → EntriesLeft → Option FreeList → EntriesLeft → Type 0
 YieldsLeafEntries w old None new = AllByRecursion (IsOfNoUse old.memory w) old.entries

@@ -45,7 +45,7 @@ pub(crate) fn count_entries(runs: &[Run]) -> usize
     ensures count { result ≡ length (memory_map (pages_of runs.now)) }
     ensures bound { result ≤ length runs.now }
 {
-    // Each run begins an entry, but for those that go on in the entry of the run before.
+    // Each run begins an entry, except those that continue the entry of the run before.
     let mut entries = runs.len();
     let mut rest = runs;
     while let [first, second, ..] = rest {

@@ -211,7 +211,7 @@ fn assert_beside<A: Allocator + Copy>(
     assert!(rt; free.goes_on() == is_free(holding_at(entries, upper, after)));
 }
 
-// Asserts that the free entries are those of the plain list, one leaf after the other, each of which has some.
+// Asserts that the free entries, leaf by leaf, are those of the plain list, and that each leaf given has some.
 fn assert_free<A: Allocator + Copy>(rt: &impl Abort, table: &RunTable<A>, entries: &[Run]) {
     let mut left = table.free_entries();
     let mut leaf = left.next_leaf();

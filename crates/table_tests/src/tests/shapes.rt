@@ -31,7 +31,7 @@ pub fn with_types(runs: u64, extra: u64, gap: u64) -> Shape {
     }
 }
 
-// Runs of which each has other attributes than those beside it, so that no runs are joined.
+// Runs whose neighbours have other attributes, so that none are joined.
 pub fn with_attributes(runs: u64, extra: u64, more: u64) -> Shape {
     Shape {
         runs,
