@@ -72,8 +72,8 @@
  *
  * docs/C.md says what these must do, how to link, and how a firmware builds the library. On x86-64
  * it runs on every processor and may be interrupted anywhere, as it uses no byte below the stack
- * pointer. ReinstallProtocolInterface and ConnectController take up to 8 KB of stack, services that
- * change pages 10 KB, RafkudinFree 12.1 KB, RafkudinMake 20 KB, RafkudinPlace 26 KB; docs/C.md says
+ * pointer. ReinstallProtocolInterface and ConnectController take up to 7 KB of stack, services that
+ * change pages 6 KB, RafkudinFree 10 KB, RafkudinMake 20 KB, RafkudinPlace 22 KB; docs/C.md says
  * what others take. */
 #ifndef RAFKUDIN_H
 #define RAFKUDIN_H
@@ -286,9 +286,9 @@ struct rafkudin_open {
  *   are looked at before any memory is asked for.
  * OUT_OF_RESOURCES: memory was refused. *core is set on SUCCESS alone.
  *
- * The core takes memory for its first 64 placements of pages and for their frees: where the heap
- * refuses all memory after that, these calls return SUCCESS nevertheless. A certificate takes
- * memory besides. */
+ * The core takes memory for its first 64 placements of pages and for freeing each of them whole:
+ * where the heap refuses all memory after that, these calls return SUCCESS nevertheless. A
+ * certificate takes memory besides. */
 RAFKUDIN_API rafkudin_uint64 RafkudinMake(const uint8_t *records, size_t size,
                                           size_t descriptor_size, rafkudin_uint64 granule,
                                           const struct rafkudin_driver *drivers,

@@ -261,8 +261,8 @@ static void refuse_long_installations(void)
     }
 }
 
-/* Opens of seven interfaces by each agent: with its seventh open item an agent takes memory of its
- * own. */
+/* Opens of each interface by five agents: with the fifth open item near it a handle takes memory of
+ * its own. */
 static void refuse_opens(void)
 {
     struct rafkudin *core = plain_core();
@@ -270,8 +270,8 @@ static void refuse_opens(void)
 
     for (unsigned round = 0; round < ROUNDS; round++)
         succeed(core, (struct call){INSTALL, 0, DRIVEN, 0, 0});
-    for (uint64_t agent = 1; agent <= ROUNDS; agent++)
-        for (uint64_t handle = 1; handle <= 7; handle++)
+    for (uint64_t handle = 1; handle <= ROUNDS; handle++)
+        for (uint64_t agent = 1; agent <= 5; agent++)
             count += refusals_of(
                 core, (struct call){OPEN, handle, DRIVEN, agent, RAFKUDIN_GET_PROTOCOL});
     HOLDS(count >= ROUNDS);
@@ -431,12 +431,12 @@ static struct rafkudin *whole_family(void)
     return core;
 }
 
-/* The children of a controller take memory of their own from the seventh on: the next one behind
- * six takes more than the one behind five. It is also the last one of seven that are made at once,
- * and one of eight. */
-static void refuse_seventh_children(void)
+/* The children of a controller take memory of their own from the fifth on: the next one after four
+ * takes more than the one after three. It is also the last one of five that are made at once, and
+ * one of eight. */
+static void refuse_fifth_children(void)
 {
-    static const size_t rows[][2] = {{5, 1}, {6, 1}, {0, 7}, {6, 8}, {3, 8}, {7, 1}, {8, 8}};
+    static const size_t rows[][2] = {{3, 1}, {4, 1}, {0, 5}, {4, 8}, {2, 8}, {5, 1}, {8, 8}};
     unsigned long counts[COUNT(rows)];
 
     for (size_t row = 0; row < COUNT(rows); row++) {
@@ -716,7 +716,7 @@ int main(void)
     refuse_reinstallations(0, ROUNDS);
     refuse_reinstallations(3, ROUNDS);
     refuse_reinstallations(BINDING, 10);
-    refuse_seventh_children();
+    refuse_fifth_children();
     refuse_on_full_table();
     try_drivers();
     try_made_driver();

@@ -16,7 +16,7 @@ pub use boot_machines::Machine;
 pub use boot_replies::{PoolList, Reply, certified, may_be_certified};
 pub use core_state::{Core, PREPARED_PLACEMENTS};
 pub use driver_connect::{Agent, DriverTurns};
-pub use guid_handles::Interface;
+pub use guid_handles::{Interface, Pair};
 pub use kept_maps::map_before;
 pub use laws::{
     acceptance_law, any_run_law, any_step_law, certificate_law, count_law, free_memory_law,
@@ -24,5 +24,5 @@ pub use laws::{
     pool_bytes_law, proper_lists_law, read_bytes_law, read_step_law, record_entries_law, room_law,
     sound_law, uninstall_run_law,
 };
-pub use open_agents::{Manager, OpenItem, OpenRecord};
+pub use open_agents::{OpenItem, OpenRecord};
 pub use pool_services::{PoolBlock, PoolMemory};

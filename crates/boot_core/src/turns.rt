@@ -5,7 +5,7 @@ ghost use Rattle.boot_core.specs.Stops.{stops_on_interface, stops_on_controller,
 
 use crate::core_state::Core;
 use driver_connect::{Agent, Driver, DriverTurns};
-use open_agents::Manager;
+use guid_handles::Pair;
 use page_ranges::Status;
 use std::alloc::{AllocError, Allocator};
 use uuid::Uuid;
@@ -32,7 +32,7 @@ impl<D: Driver, A: Allocator + Copy> Core<D, A> {
 
     /// The managers to be stopped, in order, before an interface that drivers have open can be opened exclusively,
     /// uninstalled or reinstalled.
-    pub fn stops_on_interface(&self, handle: u64, guid: Uuid) -> Result<Vec<Manager, A>, AllocError>
+    pub fn stops_on_interface(&self, handle: u64, guid: Uuid) -> Result<Vec<Pair, A>, AllocError>
         ensures { IfOk result
             (λ v. v.items ≡ stops_on_interface self.now.state.parts.lists handle guid) }
     {
@@ -41,11 +41,7 @@ impl<D: Driver, A: Allocator + Copy> Core<D, A> {
 
     /// The managers to be stopped, in order, before a handle can be disconnected from the drivers that manage
     /// it, or from one of them if `driver` is not 0.
-    pub fn stops_on_controller(
-        &self,
-        handle: u64,
-        driver: u64,
-    ) -> Result<Vec<Manager, A>, AllocError>
+    pub fn stops_on_controller(&self, handle: u64, driver: u64) -> Result<Vec<Pair, A>, AllocError>
         ensures { IfOk result
             (λ v. v.items ≡ stops_on_controller self.now.state.parts.lists handle driver) }
     {

@@ -5,7 +5,7 @@ ghost use Rattle.c_interface.specs.Turns.{ReturnsDriver, ReturnsTurns};
 ghost use Rattle.driver_connect.specs.DriverTurns.{EndsTurn, next_driver, pass_of};
 
 use crate::handle::Rafkudin;
-use c_interface::{Agent, DriverTurns, StopEntry, connect_next, connect_record};
+use c_interface::{Agent, DriverTurns, Pair, connect_next, connect_record};
 use c_machines::Guid;
 
 /// Begins the turns on a controller of the drivers on a list, which is put in the order in which they are tried: those
@@ -66,7 +66,7 @@ pub extern "C" fn RafkudinStopsOnInterface(
     core: &mut Rafkudin,
     handle: u64,
     guid: &Guid,
-    stops: &mut [StopEntry],
+    stops: &mut [Pair],
     count: &mut u64,
 ) -> u64
     ensures returned { ListsStops
@@ -83,7 +83,7 @@ pub extern "C" fn RafkudinStopsOnController(
     core: &mut Rafkudin,
     controller: u64,
     driver: u64,
-    stops: &mut [StopEntry],
+    stops: &mut [Pair],
     count: &mut u64,
 ) -> u64
     ensures returned { ListsManagers

@@ -13,4 +13,3 @@ pub mod InstalledPaths
 pub mod LeftReplies
 pub mod LocatedHere
 mod PrintedReplies
-pub mod FilledStops

@@ -1,28 +1,23 @@
 -- What a caller in C learns that stops drivers itself.
-use Rattle.std.specs.Prelude.{◌≡◌, ◌⊎◌, ℕ, List, map}
+use Rattle.std.specs.Prelude.{◌≡◌, ◌⊎◌, ℕ, List}
 use Rattle.page_ranges.specs.Statuses.{status_number}
 use Rattle.page_ranges.specs.declared.statuses.Status.TheVariants.{OutOfResources}
-use Rattle.open_agents.specs.declared.items.Manager.{Manager}
+use Rattle.guid_handles.specs.declared.records.Pair.{Pair}
 use Rattle.boot_core.specs.Stops as stops
 use Rattle.c_machines.specs.declared.guids.Guid.{Guid}
 use Rattle.c_machines.specs.Guids.{guid_in}
-use Rattle.c_interface.specs.declared.entries.StopEntry.{StopEntry}
 use Rattle.c_interface.specs.EfiCores.{EfiCoreValue}
 use Rattle.c_interface.specs.Questions.{FillsWith}
 
--- a manager that is to be stopped, as C has it
-abbrev pub stop_in_c : Manager → StopEntry
-stop_in_c m = record { controller = m.controller; agent = m.agent }
-
 -- the drivers to be stopped, in order, before an interface can be freed of them
-abbrev pub stops_on_interface : {A : Type 0} → EfiCoreValue A → ℕ → Guid → List StopEntry
+abbrev pub stops_on_interface : {A : Type 0} → EfiCoreValue A → ℕ → Guid → List Pair
 stops_on_interface c handle guid =
-    map stop_in_c (stops.stops_on_interface c.core.state.parts.lists handle (guid_in guid))
+    stops.stops_on_interface c.core.state.parts.lists handle (guid_in guid)
 
 -- the drivers to be stopped, in order, before a handle can be disconnected
-abbrev pub stops_on_controller : {A : Type 0} → EfiCoreValue A → ℕ → ℕ → List StopEntry
+abbrev pub stops_on_controller : {A : Type 0} → EfiCoreValue A → ℕ → ℕ → List Pair
 stops_on_controller c handle driver =
-    map stop_in_c (stops.stops_on_controller c.core.state.parts.lists handle driver)
+    stops.stops_on_controller c.core.state.parts.lists handle driver
 
 -- the children of a driver on a controller
 abbrev pub children : {A : Type 0} → EfiCoreValue A → ℕ → ℕ → List ℕ
@@ -36,13 +31,13 @@ FillsOrRunsOut items count buffer status new_count new_buffer =
 
 -- the drivers to be stopped before an interface can be freed of them, in the caller's buffer
 abbrev pub ListsStops : {A : Type 0} → EfiCoreValue A → ℕ → Guid
-    → ℕ → List StopEntry → ℕ → ℕ → List StopEntry → Type 0
+    → ℕ → List Pair → ℕ → ℕ → List Pair → Type 0
 ListsStops c handle guid count buffer status new_count new_buffer =
     FillsOrRunsOut (stops_on_interface c handle guid) count buffer status new_count new_buffer
 
 -- those to be stopped before a handle can be disconnected
 abbrev pub ListsManagers : {A : Type 0} → EfiCoreValue A → ℕ → ℕ
-    → ℕ → List StopEntry → ℕ → ℕ → List StopEntry → Type 0
+    → ℕ → List Pair → ℕ → ℕ → List Pair → Type 0
 ListsManagers c handle driver count buffer status new_count new_buffer =
     FillsOrRunsOut (stops_on_controller c handle driver) count buffer status new_count new_buffer
 

@@ -2,9 +2,8 @@
 ghost use Rattle.std.specs.Prelude.{◌≡◌, ◌<◌};
 ghost use Rattle.page_ranges.specs.MemoryTypes.{page_count};
 ghost use Rattle.c_interface.specs.Questions.{block_in_c, interface_in_c, open_in_c, owner_number, run_in_c};
-ghost use Rattle.c_interface.specs.Stops.{stop_in_c};
 
-use boot_core::{Manager, OpenRecord, PoolBlock};
+use boot_core::{OpenRecord, PoolBlock};
 use c_machines::{Guid, Interface};
 use page_ranges::{Owner, PAGE_SIZE, Run};
 
@@ -39,14 +38,6 @@ pub struct OpenEntry {
     pub controller: u64,
     pub attributes: u32,
     pub count: u32,
-}
-
-/// A driver that is to be stopped on a controller: the agent that has it open.
-#[repr(C)]
-#[derive(Clone, Copy, Debug, PartialEq, Eq)]
-pub struct StopEntry {
-    pub controller: u64,
-    pub agent: u64,
 }
 
 /// A live block as C has it.
@@ -106,15 +97,5 @@ pub(crate) fn open_in_c(item: OpenRecord) -> OpenEntry
         controller: item.controller,
         attributes: item.attributes,
         count: item.count,
-    }
-}
-
-/// A manager that is to be stopped as C has it.
-pub(crate) fn stop_in_c(manager: &Manager) -> StopEntry
-    ensures { result ≡ stop_in_c manager.now }
-{
-    StopEntry {
-        controller: manager.controller,
-        agent: manager.agent,
     }
 }

@@ -26,12 +26,12 @@ mod stops;
 mod turns;
 mod versions;
 
-pub use boot_core::{Agent, DriverTurns, OpenItem};
+pub use boot_core::{Agent, DriverTurns, OpenItem, Pair};
 pub use buffer_replies::{MapFields, ReadFields};
 pub use call_fields::CallFields;
 pub use checks::{MapEntry, check_block};
 pub use efi_core::{ABORTED, EfiCore, LastBlock};
-pub use entries::{BlockEntry, OpenEntry, RunEntry, StopEntry};
+pub use entries::{BlockEntry, OpenEntry, RunEntry};
 pub use laws::{printed_map_law, printed_read_law, printed_reply_law};
 pub use turns::{connect_next, connect_record};
 pub use versions::VERSION;

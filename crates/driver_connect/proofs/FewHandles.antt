@@ -1,26 +1,22 @@
 -- How many handles a connect makes at most, and how many stamps it gives.
-use Rattle.std.proofs.Common.{◌≡◌, ℕ, zero, suc, ◌+◌, ◌≤◌, List, [], ◌∷◌, length, Some, inl, inr, sym, ap, ◌∙◌, arith}
+use Rattle.std.proofs.Common.{◌≡◌, ℕ, zero, suc, ◌+◌, ◌≤◌, List, [], ◌∷◌, length, Some, inl, inr, arith}
 use Rattle.std.specs.List.{AllByRecursion}
 use Rattle.std.proofs.lemmas.Bool.{cases_Bool}
 use Rattle.std.proofs.lemmas.List.{length-append}
-use Rattle.guid_handles.specs.declared.records.Maker.{Maker}
+use Rattle.guid_handles.specs.declared.records.Pair.{Pair}
 use Rattle.guid_handles.specs.HandleTables.{HandleTable}
 use Rattle.guid_handles.specs.HandleChanges.{max_handles}
 use Rattle.open_agents.specs.declared.items.OpenRecord.{OpenRecord}
 use Rattle.driver_connect.specs.declared.agents.Agent.{Agent}
-use Rattle.driver_connect.specs.Beside.{Draft, MayLeave, first_draft, reached}
 use Rattle.driver_connect.specs.Drivers.{HasShortPlans, IsShortPlan, Meaning, Plan, ViewValue, plan_at, protocols_on}
 use Rattle.driver_connect.specs.Room.{Grows}
 use Rattle.driver_connect.specs.Starting.{Progress, Site, after_turn, is_carried_out, is_supported, plan_for, view_at, with_child, with_children}
 use Rattle.driver_connect.specs.Connecting.{connected, first_progress}
-use Rattle.driver_connect.specs.GoingOn.{GoesOn}
-use Rattle.driver_connect.specs.Stopping.{without_handles}
-use Rattle.driver_connect.proofs.Beside.{may_leave_on}
 use Rattle.driver_connect.proofs.ByTurns.{by_connect}
 use Rattle.driver_connect.proofs.Passes.{grows_further, grows_same, sound_plan}
 
 -- each child is one handle more
-children_counted : (maker : Maker) (children : List (List (List ℕ × ℕ))) (t : HandleTable) → length (with_children maker children t).handles ≡ length t.handles + length children
+children_counted : (maker : Pair) (children : List (List (List ℕ × ℕ))) (t : HandleTable) → length (with_children maker children t).handles ≡ length t.handles + length children
 children_counted maker [] t = omega arith
 children_counted maker (pairs ∷ children) t =
     let more : length (with_child maker pairs t).handles ≡ length t.handles + 1 = length-append t.handles (record { number = t.last_number + 1; maker = Some maker } ∷ []) in
@@ -54,7 +50,7 @@ few_more k c named p =
 -- ---- what their plans allow
 
 -- each child takes a number, and a stamp for each of its interfaces
-children_grow : (maker : Maker) (children : List (List (List ℕ × ℕ))) (t : HandleTable) → AllByRecursion (λ pairs. length pairs ≤ 4) children → Grows t (with_children maker children t)
+children_grow : (maker : Pair) (children : List (List (List ℕ × ℕ))) (t : HandleTable) → AllByRecursion (λ pairs. length pairs ≤ 4) children → Grows t (with_children maker children t)
 children_grow maker [] t h = grows_same t
 children_grow maker (pairs ∷ children) t h =
     let u : HandleTable = with_child maker pairs t in
@@ -71,7 +67,7 @@ grown_after_turn : (t : HandleTable) (c : Site) (p : Progress) (a : Agent) → A
 grown_after_turn t c p a ds h = elim (cases_Bool (is_supported c p a)) [
   | inl e ↦ elim (cases_Bool (is_carried_out c p a)) [
     | inl f ↦
-        let maker : Maker = record { controller = c.controller; agent = a.handle } in
+        let maker : Pair = record { controller = c.controller; agent = a.handle } in
         let plan : Plan = plan_for c p a in
         let those : Grows p.handles (with_children maker plan.children p.handles) = children_grow maker plan.children p.handles (short_if c.drivers a.driver (view_at c p a) ds) in
         rw e (rw f (grows_further t p.handles (with_children maker plan.children p.handles) h those))
@@ -92,18 +88,13 @@ stamps_given k c named p ds = omega (arith, (connect_grows k c named p ds).stamp
 
 -- ---- what they take
 
-module _ (ns : List ℕ) (t : HandleTable) (opens : List OpenRecord) (may : MayLeave ns t) (d : Draft) (m : GoesOn (first_draft ns t opens) d) where
-  -- handles that go are as many before a connect and after it
-  few_beside : (k : ℕ) (c : Site) (named : List ℕ) → reached d ≡ connected k c named (first_progress (without_handles ns t) opens) → length d.handles.handles ≤ length t.handles + max_handles
-  few_beside k c named whole =
-      let those : without_handles ns d.handles ≡ (connected k c named (first_progress (without_handles ns t) opens)).handles
-      = ap (λ (ms : List ℕ). without_handles ms d.handles) (sym m.leaving) ∙ ap (λ (p : Progress). p.handles) whole in
-      let long = ap (λ (u : HandleTable). length u.handles) those in
-      omega (arith, long, may.count, (may_leave_on ns t d.handles m.handles may).count, few_more k c named (first_progress (without_handles ns t) opens))
+module _ (t : HandleTable) (opens : List OpenRecord) (p : Progress) (k : ℕ) (c : Site) (named : List ℕ) (whole : p ≡ connected k c named (first_progress t opens)) (g : Grows t p.handles) where
+  few : length p.handles.handles ≤ length t.handles + max_handles
+  few = rw whole (few_more k c named (first_progress t opens))
 
   -- each takes a number and at most four stamps
-  pub numbers_rise : (k : ℕ) (c : Site) (named : List ℕ) → reached d ≡ connected k c named (first_progress (without_handles ns t) opens) → Grows t d.handles → d.handles.last_number ≤ t.last_number + 4096
-  numbers_rise k c named whole g = omega (arith, g.numbers, few_beside k c named whole)
+  pub numbers_rise : p.handles.last_number ≤ t.last_number + 4096
+  numbers_rise = omega (arith, g.numbers, few)
 
-  pub stamps_rise : (k : ℕ) (c : Site) (named : List ℕ) → reached d ≡ connected k c named (first_progress (without_handles ns t) opens) → Grows t d.handles → d.handles.last_stamp ≤ t.last_stamp + 16384
-  stamps_rise k c named whole g = omega (arith, g.stamps, few_beside k c named whole)
+  pub stamps_rise : p.handles.last_stamp ≤ t.last_stamp + 16384
+  stamps_rise = omega (arith, g.stamps, few)

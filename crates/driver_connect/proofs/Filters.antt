@@ -5,7 +5,7 @@ use Rattle.std.proofs.lemmas.Bool.{cases_Bool}
 use Rattle.guid_handles.specs.HandleTables.{HandleTable}
 use Rattle.guid_handles.specs.HandleChanges.{without_handle}
 use Rattle.guid_handles.proofs.SortedLists.{filter_same, all_of}
-use Rattle.open_agents.specs.declared.items.Manager.{Manager}
+use Rattle.guid_handles.specs.declared.records.Pair.{Pair}
 use Rattle.open_agents.specs.declared.items.OpenRecord.{OpenRecord}
 use Rattle.open_agents.specs.OpenItems.{names, is_of_pair, manager_of, without_items}
 use Rattle.driver_connect.specs.Stopping.{same_pair, names_any, without_handles, without_pairs}
@@ -105,7 +105,7 @@ names_before ns at opens old new z l e f =
     ∙ names_first (get_or ns (at - 1) 0) (drop at ns) opens
     ∙ ap (λ ms. without_items (names_any ms) opens) (sym (left_at ns at z l))
 
-same_as_pair : (p : Manager) (o : OpenRecord) → not (is_of_pair p.controller p.agent o) ≡ not (same_pair (manager_of o) p)
+same_as_pair : (p : Pair) (o : OpenRecord) → not (is_of_pair p.controller p.agent o) ≡ not (same_pair (manager_of o) p)
 same_as_pair p o = elim (cases_Bool (o.controller == p.controller)) [
   | inl e ↦ elim (cases_Bool (o.agent == p.agent)) [
     | inl k ↦ rw e (rw k refl)
@@ -117,7 +117,7 @@ same_as_pair p o = elim (cases_Bool (o.controller == p.controller)) [
   ]
 ]
 
-pub pairs_more : (ps : List Manager) (p : Manager) (opens : List OpenRecord) → without_items (is_of_pair p.controller p.agent) (without_pairs ps opens) ≡ without_pairs (ps ++ p ∷ []) opens
+pub pairs_more : (ps : List Pair) (p : Pair) (opens : List OpenRecord) → without_items (is_of_pair p.controller p.agent) (without_pairs ps opens) ≡ without_pairs (ps ++ p ∷ []) opens
 pairs_more ps p opens =
     filter_same (λ o. not (is_of_pair p.controller p.agent o)) (λ o. not (same_pair (manager_of o) p)) (without_pairs ps opens) (all_of (λ o. not (is_of_pair p.controller p.agent o) ≡ not (same_pair (manager_of o) p)) (same_as_pair p) (without_pairs ps opens))
     ∙ left_out_more (λ q o. same_pair (manager_of o) q) ps p opens

@@ -5,7 +5,7 @@ use Rattle.std.proofs.lemmas.Bool.{cases_Bool, le-leb, lt-leb}
 use Rattle.std.proofs.Math.Seq.{take-append_seam}
 use Rattle.guid_handles.specs.declared.records.Interface.{Interface}
 use Rattle.guid_handles.specs.declared.records.LiveHandle.{LiveHandle}
-use Rattle.guid_handles.specs.declared.records.Maker.{Maker}
+use Rattle.guid_handles.specs.declared.records.Pair.{Pair}
 use Rattle.guid_handles.specs.HandleTables.{HandleTable, numbers}
 use Rattle.guid_handles.specs.HandleChanges.{IsHandleTable, stamped, with_handle, with_interfaces}
 use Rattle.guid_handles.specs.TableSteps.{AreOlder, taken_back_to}
@@ -15,8 +15,7 @@ use Rattle.open_agents.specs.declared.items.OpenRecord.{OpenRecord}
 use Rattle.open_agents.specs.OpenItems.{is_equal_item, with_item}
 use Rattle.open_agents.specs.OpenRule.{has_holder}
 use Rattle.driver_connect.specs.GoingOn.{GoesOn, HasMade, HasOpened}
-use Rattle.driver_connect.specs.Beside.{Draft}
-use Rattle.driver_connect.specs.Starting.{with_child}
+use Rattle.driver_connect.specs.Starting.{Progress, with_child}
 use Rattle.driver_connect.proofs.Opened.{none_equal}
 
 -- ---- handles
@@ -52,7 +51,7 @@ stamped_later : (last n stamp : ℕ) (pairs : List (List ℕ × ℕ)) → last <
 stamped_later last n stamp [] l = tt
 stamped_later last n stamp (p ∷ ps) l = (l, stamped_later last n (stamp + 1) ps l)
 
-pub made_child : (maker : Maker) (pairs : List (List ℕ × ℕ)) (t : HandleTable) → HasMade t (with_child maker pairs t)
+pub made_child : (maker : Pair) (pairs : List (List ℕ × ℕ)) (t : HandleTable) → HasMade t (with_child maker pairs t)
 made_child maker pairs t = record {
   made = record { number = t.last_number + 1; maker = Some maker } ∷ [];
   installed = stamped (t.last_number + 1) t.last_stamp pairs;
@@ -66,7 +65,7 @@ made_child maker pairs t = record {
 }
 
 -- the same of the table after a child is made
-pub child_made : (maker : Maker) (pairs : List (List ℕ × ℕ)) (t new : HandleTable) (n : ℕ) → (n ≡ t.last_number + 1) × (new ≡ with_interfaces n pairs (with_handle (Some maker) t)) → HasMade t new
+pub child_made : (maker : Pair) (pairs : List (List ℕ × ℕ)) (t new : HandleTable) (n : ℕ) → (n ≡ t.last_number + 1) × (new ≡ with_interfaces n pairs (with_handle (Some maker) t)) → HasMade t new
 child_made maker pairs t new n h = rw (h.1, h.0) (made_child maker pairs t)
 
 pub same_made : (t new : HandleTable) → new ≡ t → HasMade t new
@@ -97,18 +96,17 @@ same_opened a b c o e = rw e o
 
 -- ---- both
 
-pub goes_nowhere : (d : Draft) → GoesOn d d
-goes_nowhere d = record { handles = made_none d.handles; opens = opened_none d.opens; leaving = refl }
+pub goes_nowhere : (p : Progress) → GoesOn p p
+goes_nowhere p = record { handles = made_none p.handles; opens = opened_none p.opens }
 
-pub goes_further : (d e f : Draft) → GoesOn d e → GoesOn e f → GoesOn d f
-goes_further d e f a b = record {
-  handles = made_further d.handles e.handles f.handles a.handles b.handles;
-  opens = opened_further d.opens e.opens f.opens a.opens b.opens;
-  leaving = b.leaving ∙ a.leaving;
+pub goes_further : (p q r : Progress) → GoesOn p q → GoesOn q r → GoesOn p r
+goes_further p q r a b = record {
+  handles = made_further p.handles q.handles r.handles a.handles b.handles;
+  opens = opened_further p.opens q.opens r.opens a.opens b.opens;
 }
 
-pub goes_by : (d e : Draft) → HasMade d.handles e.handles → HasOpened d.opens e.opens → e.leaving ≡ d.leaving → GoesOn d e
-goes_by d e m o l = record { handles = m; opens = o; leaving = l }
+pub goes_by : (p q : Progress) → HasMade p.handles q.handles → HasOpened p.opens q.opens → GoesOn p q
+goes_by p q m o = record { handles = m; opens = o }
 
 -- ---- taken back
 

@@ -5,7 +5,7 @@ use Rattle.std.proofs.lemmas.Bool.{cases_Bool}
 use Rattle.std.proofs.lemmas.Bool.Decides.{eqb_tells}
 use Rattle.guid_handles.specs.HandleTables.{HandleTable, has_number, is_on}
 use Rattle.guid_handles.proofs.Filters.{filter_inside}
-use Rattle.open_agents.specs.declared.items.Manager.{Manager}
+use Rattle.guid_handles.specs.declared.records.Pair.{Pair}
 use Rattle.open_agents.specs.declared.items.OpenRecord.{OpenRecord}
 use Rattle.open_agents.specs.OpenItems.{names, manager_of, without_items}
 use Rattle.driver_connect.specs.Stopping.{has_pair, is_one_of, names_any, without_handles, without_opens}
@@ -59,7 +59,7 @@ named_by_one (m ∷ ms) n o h k = elim (eqb_tells n m) [
       ]
 ]
 
-pub handles_gone : (ns : List ℕ) (pairs : List Manager) (t : HandleTable) (opens : List OpenRecord) (n : ℕ) → is_one_of ns n ≡ true
+pub handles_gone : (ns : List ℕ) (pairs : List Pair) (t : HandleTable) (opens : List OpenRecord) (n : ℕ) → is_one_of ns n ≡ true
     → (filter (has_number n) (without_handles ns t).handles ≡ []) × (filter (is_on n) (without_handles ns t).interfaces ≡ []) × (list_any (names n) (without_opens ns pairs opens) ≡ false)
 handles_gone ns pairs t opens n h = (
   gone (has_number n) (λ l. not (is_one_of ns l.number)) (λ l e. ap not (same_number ns l.number n true h e)) t.handles,

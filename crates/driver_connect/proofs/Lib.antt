@@ -1,5 +1,4 @@
 pub mod Filters
-pub mod Among
 pub mod Rounds
 pub mod VersionOrder
 pub mod Opened
@@ -15,14 +14,12 @@ pub mod Whole
 pub mod NoPairs
 pub mod PlannedStops
 pub mod StopSets
-pub mod PairMembers
 pub mod MadeHandles
 pub mod Unobstructed
 pub mod NearChildren
 pub mod NewPairs
 pub mod Left
 pub mod Idle
-pub mod Ready
 pub mod Makers
 pub mod Counts
 pub mod Samples
@@ -31,10 +28,6 @@ pub mod DriverLists
 pub mod TurnSteps
 pub mod StopsInOrder
 pub mod GoingOn
-pub mod Beside
-pub mod LeavingAgents
-pub mod AfterStops
-pub mod ReadyAfter
 pub mod Restamped
 pub mod OnePair
 pub mod Lives

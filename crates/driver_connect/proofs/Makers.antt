@@ -6,7 +6,7 @@ use Rattle.std.proofs.lemmas.Bool.{cases_Bool}
 use Rattle.std.proofs.lemmas.Bool.Decides.{eqb_tells}
 use Rattle.guid_handles.specs.declared.records.Interface.{Interface}
 use Rattle.guid_handles.specs.declared.records.LiveHandle.{LiveHandle}
-use Rattle.guid_handles.specs.declared.records.Maker.{Maker}
+use Rattle.guid_handles.specs.declared.records.Pair.{Pair}
 use Rattle.guid_handles.specs.HandleTables.{HandleTable, numbers, is_at, holders_of}
 use Rattle.guid_handles.specs.HandleChanges.{IsHandleTable, stamped}
 use Rattle.guid_handles.specs.Sorting.{kept_if}
@@ -31,7 +31,7 @@ pub record Makes (p q : Progress) : Type 0 where
   pub made : List LiveHandle
   pub handles : q.handles.handles ≡ p.handles.handles ++ made
   pub items : AllByRecursion (λ h. has_makers_item q.opens h ≡ true) made
-  pub kept : (m : Option Maker) → list_any (is_of_maker m) p.opens ≡ true → list_any (is_of_maker m) q.opens ≡ true
+  pub kept : (m : Option Pair) → list_any (is_of_maker m) p.opens ≡ true → list_any (is_of_maker m) q.opens ≡ true
   pub zero_free : IsZeroFree p.handles → IsZeroFree q.handles
 
 makes_same : (p : Progress) → Makes p p
@@ -49,21 +49,21 @@ makes_further p q r a b = record {
 
 -- ---- items
 
-abbrev by : ℕ → ℕ → Maker
+abbrev by : ℕ → ℕ → Pair
 by controller agent = record { controller = controller; agent = agent }
 
-counted_same : (m : Option Maker) (e : OpenRecord → Bool) (o : OpenRecord) → is_of_maker m (counted e o) ≡ is_of_maker m o
+counted_same : (m : Option Pair) (e : OpenRecord → Bool) (o : OpenRecord) → is_of_maker m (counted e o) ≡ is_of_maker m o
 counted_same None e o = refl
 counted_same (Some m) e o = elim (cases_Bool (e o)) [
   | inl k ↦ rw k refl
   | inr k ↦ rw k refl
 ]
 
-all_counted : (m : Option Maker) (e : OpenRecord → Bool) (opens : List OpenRecord) → list_any (is_of_maker m) (map (counted e) opens) ≡ list_any (is_of_maker m) opens
+all_counted : (m : Option Pair) (e : OpenRecord → Bool) (opens : List OpenRecord) → list_any (is_of_maker m) (map (counted e) opens) ≡ list_any (is_of_maker m) opens
 all_counted m e [] = refl
 all_counted m e (o ∷ os) = rw (counted_same m e o) (ap (λ b. is_of_maker m o || b) (all_counted m e os))
 
-item_kept : (m : Option Maker) (n : ℕ) (guid : List ℕ) (agent : ℕ) (opens : List OpenRecord) → list_any (is_of_maker m) opens ≡ true → list_any (is_of_maker m) (with_item n guid agent n 0x10 opens) ≡ true
+item_kept : (m : Option Pair) (n : ℕ) (guid : List ℕ) (agent : ℕ) (opens : List OpenRecord) → list_any (is_of_maker m) opens ≡ true → list_any (is_of_maker m) (with_item n guid agent n 0x10 opens) ≡ true
 item_kept m n guid agent opens h = elim (cases_Bool (list_any (is_equal_item n guid agent n 0x10) opens)) [
   | inl e ↦ rw e (all_counted m (is_equal_item n guid agent n 0x10) opens ∙ h)
   | inr e ↦ elim (cases_Bool (agent == 0)) [
@@ -100,7 +100,7 @@ item_made n guid agent opens l = elim (cases_Bool (list_any (is_equal_item n gui
   ]
 ]
 
-items_kept : (m : Option Maker) (n agent : ℕ) (guids : List (List ℕ)) (opens : List OpenRecord) → list_any (is_of_maker m) opens ≡ true → list_any (is_of_maker m) (with_driver_items n agent guids opens) ≡ true
+items_kept : (m : Option Pair) (n agent : ℕ) (guids : List (List ℕ)) (opens : List OpenRecord) → list_any (is_of_maker m) opens ≡ true → list_any (is_of_maker m) (with_driver_items n agent guids opens) ≡ true
 items_kept m n agent [] opens h = h
 items_kept m n agent (g ∷ gs) opens h = items_kept m n agent gs (with_item n g agent n 0x10 opens) (item_kept m n g agent opens h)
 
@@ -110,7 +110,7 @@ items_made n agent (g ∷ gs) opens l h = items_kept (Some (by n agent)) n agent
 
 -- ---- children
 
-children_made : (maker : Maker) (children : List (List (List ℕ × ℕ))) (t : HandleTable)
+children_made : (maker : Pair) (children : List (List (List ℕ × ℕ))) (t : HandleTable)
     → (made : List LiveHandle) × ((with_children maker children t).handles ≡ t.handles ++ made) × AllByRecursion (λ h. h.maker ≡ Some maker) made
 children_made maker [] t = ([], sym (append-nil t.handles), tt)
 children_made maker (pairs ∷ children) t =
@@ -121,7 +121,7 @@ stamped_above : (n stamp : ℕ) (pairs : List (List ℕ × ℕ)) → 0 < n → A
 stamped_above n stamp [] l = tt
 stamped_above n stamp (p ∷ ps) l = (l, stamped_above n (stamp + 1) ps l)
 
-children_above : (maker : Maker) (children : List (List (List ℕ × ℕ))) (t : HandleTable) → IsZeroFree t → IsZeroFree (with_children maker children t)
+children_above : (maker : Pair) (children : List (List (List ℕ × ℕ))) (t : HandleTable) → IsZeroFree t → IsZeroFree (with_children maker children t)
 children_above maker [] t h = h
 children_above maker (pairs ∷ children) t h =
     children_above maker children (with_child maker pairs t)

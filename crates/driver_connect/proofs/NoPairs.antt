@@ -2,19 +2,18 @@
 use Rattle.std.proofs.Common.{◌≡◌, ℕ, zero, suc, ◌+◌, ◌==◌, ◌||◌, not, Bool, true, false, List, [], ◌∷◌, length, Option, Some, None, refl, arith}
 use Rattle.std.specs.List.{filter, list_all}
 use Rattle.std.proofs.lemmas.Bool.{eqb-true}
-use Rattle.guid_handles.specs.declared.records.Maker.{Maker}
+use Rattle.guid_handles.specs.declared.records.Pair.{Pair}
 use Rattle.guid_handles.specs.HandleTables.{HandleTable, maker_of, numbers}
 use Rattle.guid_handles.proofs.GuidOrder.{and_false}
 use Rattle.open_agents.specs.declared.items.OpenRecord.{OpenRecord}
 use Rattle.open_agents.specs.OpenItems.{is_for_driver}
-use Rattle.driver_connect.specs.declared.stopping.Opener.{Opener}
 use Rattle.driver_connect.specs.Drivers.{Meaning}
 use Rattle.driver_connect.specs.Stopping.{can_be_stopped, is_maker, is_made_by, is_no_obstacle, made_by, managers_of_made, manages_made, rounds, spares_opener, stop_set}
 
 none_made : (t : HandleTable) (n : ℕ) → is_made_by t [] n ≡ false
 none_made t n = no_maker (maker_of t n)
   where
-    no_maker : (m : Option Maker) → is_maker [] m ≡ false
+    no_maker : (m : Option Pair) → is_maker [] m ≡ false
     no_maker None = refl
     no_maker (Some m) = refl
 
@@ -41,11 +40,11 @@ clear : (t : HandleTable) (os : List OpenRecord) → list_all (λ o. not (is_mad
 clear t [] = refl
 clear t (o ∷ os) = rw (none_made t o.handle) (clear t os)
 
-spared : (t : HandleTable) (opener : Option Opener) → spares_opener t [] opener ≡ true
+spared : (t : HandleTable) (opener : Option Pair) → spares_opener t [] opener ≡ true
 spared t None = refl
 spared t (Some o) = rw (none_made t o.agent) (rw (none_made t o.controller) refl)
 
-pub nothing_hinders : (ds : List Meaning) (t : HandleTable) (opens : List OpenRecord) (handle : ℕ) (opener : Option Opener) → can_be_stopped ds t opens [] handle opener ≡ true
+pub nothing_hinders : (ds : List Meaning) (t : HandleTable) (opens : List OpenRecord) (handle : ℕ) (opener : Option Pair) → can_be_stopped ds t opens [] handle opener ≡ true
 nothing_hinders ds t opens handle opener = rw (clear t opens) (rw (none_made t handle) (rw (spared t opener) refl))
 
 pub none_in : {X : Type 0} (xs : List X) → (length xs == 0) ≡ true → xs ≡ []

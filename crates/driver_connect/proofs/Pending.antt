@@ -1,5 +1,6 @@
 -- Handles that are still to be connected, one more or one less.
-use Rattle.std.proofs.Common.{◌≡◌, ℕ, ◌+◌, ◌-◌, ◌<◌, ◌≤◌, nat_lt, Bool, true, false, not, List, [], ◌∷◌, ◌++◌, map, length, drop, take, refl, sym, ap, ◌∙◌, append_assoc, arith}
+use Rattle.std.proofs.Common.{◌≡◌, ℕ, ◌+◌, ◌-◌, ◌<◌, ◌≤◌, nat_lt, Bool, true, false, not, List, [], ◌∷◌, ◌++◌, map, length, drop, take, refl, sym, ap, ◌∙◌, append_assoc, arith, inl, inr}
+use Rattle.std.proofs.lemmas.Bool.{cases_Bool, lt-ltb, ltb-true}
 use Rattle.std.specs.List.{filter}
 use Rattle.std.proofs.lemmas.List.{length-append, length-drop, length-map, take_all}
 use Rattle.guid_handles.specs.declared.records.LiveHandle.{LiveHandle}
@@ -7,7 +8,6 @@ use Rattle.guid_handles.specs.HandleTables.{HandleTable, numbers}
 use Rattle.guid_handles.specs.HandleChanges.{IsHandleTable}
 use Rattle.guid_handles.proofs.Filters.{filter_append}
 use Rattle.guid_handles.specs.Sorting.{Ascending, place}
-use Rattle.guid_handles.proofs.FiledTurns.{late}
 use Rattle.guid_handles.proofs.SortedLists.{Falls, all_map, all_of, behind_place, filter_same, filter_shorter, map_append}
 use Rattle.protocol_notify.specs.declared.notify.Registration.{Registration}
 use Rattle.driver_connect.specs.declared.connecting.Pending.{Pending}
@@ -67,7 +67,14 @@ one_and_made ds rs xs x named p q last made ys l a b m e =
     ap (λ zs. all_connected ds rs zs q) e ∙ those_connected ds rs xs (x.levels - 1) made q
     ∙ ap (all_connected ds rs xs) (levels_joined x.levels (site ds rs x.handle) named p q (each_connected (x.levels - 1) ds rs made q) last made l a b m refl)
 
--- once a number is above the last one those behind it are
+-- a number above one that is above the last is too
+late : (last m n : ℕ) → m < n → not (nat_lt last m) ≡ false → not (nat_lt last n) ≡ false
+late last m n l h = elim (cases_Bool (nat_lt last m)) [
+  | inl t ↦ let k : nat_lt last n ≡ true = lt-ltb last n (omega (arith, l, ltb-true last m t)) in rw k refl
+  | inr f ↦ let w : true ≡ false = rw f at h in cc
+]
+
+-- once a number is above the last one those after it are
 pub numbers_fall : (last : ℕ) (ns : List ℕ) → Ascending (λ a b. a < b) ns → Falls (λ n. not (nat_lt last n)) ns
 numbers_fall last [] a = tt
 numbers_fall last (n ∷ ns) a = (λ h. all_map (λ m. n < m) (λ m. not (nat_lt last m) ≡ false) (λ m l. late last n m l h) ns a.0, numbers_fall last ns a.1)

@@ -5,13 +5,12 @@ use Rattle.std.proofs.lemmas.Bool.{cases_Bool, and_parts, eq-eqb}
 use Rattle.std.proofs.lemmas.Bool.Decides.{eqb_tells}
 use Rattle.guid_handles.specs.HandleTables.{HandleTable, numbers, same_guid}
 use Rattle.guid_handles.proofs.GuidOrder.{and_false}
-use Rattle.open_agents.specs.declared.items.Manager.{Manager}
+use Rattle.guid_handles.specs.declared.records.Pair.{Pair}
 use Rattle.open_agents.specs.declared.items.OpenRecord.{OpenRecord}
 use Rattle.open_agents.specs.Blocks.{is_near}
 use Rattle.open_agents.specs.OpenItems.{counted, is_equal_item, is_exclusive, is_for_driver, is_holding, is_keeping, is_kept, is_of_pair, is_open_on, keeps, manager_of, once_more, with_item, without_items}
 use Rattle.open_agents.specs.OpenRule.{has_holder}
 use Rattle.open_agents.proofs.Asked.{any_listed, handle_near}
-use Rattle.driver_connect.specs.declared.stopping.Opener.{Opener}
 use Rattle.driver_connect.specs.Drivers.{Meaning}
 use Rattle.driver_connect.specs.Stopping.{PlannedStop, takes_item, can_be_stopped, has_agent, has_pair, is_made_by, is_unobstructed, made_by, may_stop, names_any, spares_opener, without_opens}
 
@@ -149,7 +148,7 @@ added_first plan n guid agent controller a opens h =
 
 -- ---- the opener stays
 
-not_pair : (pairs : List Manager) (agent controller : ℕ) → has_agent pairs agent ≡ false → has_pair pairs (record { controller = controller; agent = agent }) ≡ false
+not_pair : (pairs : List Pair) (agent controller : ℕ) → has_agent pairs agent ≡ false → has_pair pairs (record { controller = controller; agent = agent }) ≡ false
 not_pair [] agent controller h = refl
 not_pair (p ∷ ps) agent controller h = elim (eqb_tells agent p.agent) [
   | inl t ↦ absurd (let k : (p.agent == agent) ≡ true = eq-eqb p.agent agent (sym t.1) in let m = rw k at h in cc)
@@ -177,7 +176,7 @@ false_if_not true h = cc
 false_if_not false h = refl
 
 -- A stop that can be made for a call of OpenProtocol takes out no item of its opener.
-pub opener_spared : (ds : List Meaning) (t : HandleTable) (opens : List OpenRecord) (plan : PlannedStop) (handle : ℕ) (opener : Opener) → plan.handles ≡ made_by t plan.pairs
+pub opener_spared : (ds : List Meaning) (t : HandleTable) (opens : List OpenRecord) (plan : PlannedStop) (handle : ℕ) (opener : Pair) → plan.handles ≡ made_by t plan.pairs
     → can_be_stopped ds t opens plan.pairs handle (Some opener) ≡ true → takes_item plan handle opener.agent opener.controller ≡ false
 opener_spared ds t opens plan handle opener made h =
     let set = plan.pairs in

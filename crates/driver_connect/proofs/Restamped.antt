@@ -1,17 +1,16 @@
 -- A connect where an interface has another stamp, which no driver is shown.
-use Rattle.std.proofs.Common.{◌≡◌, ℕ, zero, suc, ◌+◌, ◌<◌, ◌≤◌, ◌==◌, nat_eq, not, Bool, true, false, List, [], ◌∷◌, ◌++◌, map, length, Option, Some, None, is_some, inl, inr, refl, sym, ap, ◌∙◌, append-nil, arith}
+use Rattle.std.proofs.Common.{◌≡◌, ℕ, zero, suc, ◌+◌, ◌<◌, ◌≤◌, ◌==◌, nat_eq, Bool, true, false, List, [], ◌∷◌, ◌++◌, map, length, Option, Some, None, is_some, inl, inr, refl, sym, ap, ◌∙◌, append-nil, arith}
 use Rattle.std.specs.List.{filter, find, list_any, AllByRecursion}
 use Rattle.std.specs.Option.{option_map}
 use Rattle.std.proofs.lemmas.Bool.{cases_Bool, ne_eqb}
-use Rattle.guid_handles.specs.declared.records.Maker.{Maker}
+use Rattle.guid_handles.specs.declared.records.Pair.{Pair}
 use Rattle.guid_handles.specs.declared.records.Interface.{Interface}
 use Rattle.guid_handles.specs.HandleTables.{HandleTable, carries, interface_at, is_at, is_on, numbers, value_at}
 use Rattle.guid_handles.specs.HandleChanges.{IsHandleTable, restamped, stamped, with_value}
 use Rattle.guid_handles.specs.TableSteps.{IsAlone, MayHave, put_at, with_stamp_given}
 use Rattle.guid_handles.proofs.SortedLists.{all_append, all_both, all_map, all_mapped, all_of, any_member, filter_same, map_append}
 use Rattle.guid_handles.proofs.Found.{found_one}
-use Rattle.guid_handles.proofs.Filters.{filter_changed}
-use Rattle.guid_handles.proofs.Indexed.{at_handle, restamped_handle}
+use Rattle.guid_handles.proofs.Indexed.{at_handle}
 use Rattle.open_agents.specs.declared.items.OpenRecord.{OpenRecord}
 use Rattle.protocol_notify.specs.declared.notify.Registration.{Registration}
 use Rattle.driver_connect.specs.declared.agents.Agent.{Agent}
@@ -20,8 +19,6 @@ use Rattle.driver_connect.specs.Drivers.{Meaning, Plan, driver_binding, protocol
 use Rattle.driver_connect.specs.Starting.{Site, site, Progress, Passed, after_turn, agents_for, by_version, carried_out, is_carried_out, is_supported, joined, left_of, other, others_among, pass, passes, plan_for, starts_of, starts_on, turn, with_child, with_children}
 use Rattle.driver_connect.specs.Connecting.{ConnectsBelow, connected, first_progress, for_each, levels_below, made_after}
 use Rattle.driver_connect.specs.GoingOn.{HasMade}
-use Rattle.driver_connect.specs.Beside.{MayLeave}
-use Rattle.driver_connect.specs.Stopping.{is_one_of, without_handles}
 
 found_more : (p : Interface → Bool) (xs ys : List Interface) → is_some (find p xs) ≡ true → is_some (find p (xs ++ ys)) ≡ true
 found_more p [] ys h = cc
@@ -125,13 +122,13 @@ module _ (n : ℕ) (guid : List ℕ) (value s : ℕ) where
   new_other : (t : HandleTable) → Fits n guid value s t → (t.last_number + 1 == n) ≡ false
   new_other t h = ne_eqb (t.last_number + 1) n (λ e. omega (arith, e, h.known))
 
-  child_masked : (maker : Maker) (pairs : List (List ℕ × ℕ)) (t : HandleTable) → Fits n guid value s t → with_child maker pairs (put_at n guid value s t) ≡ put_at n guid value s (with_child maker pairs t)
+  child_masked : (maker : Pair) (pairs : List (List ℕ × ℕ)) (t : HandleTable) → Fits n guid value s t → with_child maker pairs (put_at n guid value s t) ≡ put_at n guid value s (with_child maker pairs t)
   child_masked maker pairs t h =
       ap (λ (is : List Interface). record (with_child maker pairs t) { interfaces = is })
       (sym (map_append (restamped n guid value s) t.interfaces (stamped (t.last_number + 1) t.last_stamp pairs)
       ∙ ap (λ (is : List Interface). map (restamped n guid value s) t.interfaces ++ is) (stamped_same (t.last_number + 1) t.last_stamp pairs (new_other t h))))
 
-  child_fits : (maker : Maker) (pairs : List (List ℕ × ℕ)) (t : HandleTable) → Fits n guid value s t → Fits n guid value s (with_child maker pairs t)
+  child_fits : (maker : Pair) (pairs : List (List ℕ × ℕ)) (t : HandleTable) → Fits n guid value s t → Fits n guid value s (with_child maker pairs t)
   child_fits maker pairs t h = record {
     known = omega (arith, h.known);
     given = omega (arith, h.given);
@@ -140,7 +137,7 @@ module _ (n : ℕ) (guid : List ℕ) (value s : ℕ) where
     may = all_append (MayHave n guid s) t.interfaces (stamped (t.last_number + 1) t.last_stamp pairs) h.may (stamped_may (t.last_number + 1) t.last_stamp pairs (new_other t h) h.given);
   }
 
-  children_masked : (maker : Maker) (children : List (List (List ℕ × ℕ))) (t : HandleTable) → Fits n guid value s t
+  children_masked : (maker : Pair) (children : List (List (List ℕ × ℕ))) (t : HandleTable) → Fits n guid value s t
       → (with_children maker children (put_at n guid value s t) ≡ put_at n guid value s (with_children maker children t)) × Fits n guid value s (with_children maker children t)
   children_masked maker [] t h = (refl, h)
   children_masked maker (pairs ∷ children) t h =
@@ -265,21 +262,20 @@ module _ (n : ℕ) (guid : List ℕ) where
     | inr f ↦ rw f (λ e. absurd cc, λ g. m.1 f)
   ]
 
--- the handle of an interface was given
-pub live_number : (n : ℕ) (guid : List ℕ) (t : HandleTable) (x : Interface) → IsHandleTable t → interface_at t n guid ≡ Some x → n ≤ t.last_number
-live_number n guid t x proper found =
-    let o = found_one (λ i. list_any (λ m. nat_eq m i.handle) (numbers t) ≡ true) (is_at n guid) t.interfaces x proper.on_live found in
-    let l : (0 < x.handle) × (x.handle ≤ t.last_number) = any_member x.handle (numbers t) (λ m. (0 < m) × (m ≤ t.last_number)) proper.given o.1 in
-    omega (arith, l.1, at_handle n guid x o.0)
-
-module _ (n : ℕ) (guid : List ℕ) (value : ℕ) (t : HandleTable) (x : Interface) (known : n ≤ t.last_number) (found : interface_at t n guid ≡ Some x)
+module _ (n : ℕ) (guid : List ℕ) (value : ℕ) (t : HandleTable) (x : Interface) (proper : IsHandleTable t) (found : interface_at t n guid ≡ Some x)
     (alone : AllByRecursion (IsAlone n guid x) t.interfaces) (below : AllByRecursion (λ i. i.stamp ≤ t.last_stamp) t.interfaces) where
+  live_number : n ≤ t.last_number
+  live_number =
+      let o = found_one (λ i. list_any (λ m. nat_eq m i.handle) (numbers t) ≡ true) (is_at n guid) t.interfaces x proper.on_live found in
+      let l : (0 < x.handle) × (x.handle ≤ t.last_number) = any_member x.handle (numbers t) (λ m. (0 < m) × (m ≤ t.last_number)) proper.given o.1 in
+      omega (arith, l.1, at_handle n guid x o.0)
+
   later : AllByRecursion (MayHave n guid (t.last_stamp + 1)) t.interfaces
   later = all_map (λ i. i.stamp ≤ t.last_stamp) (MayHave n guid (t.last_stamp + 1)) (λ i l. (λ e. omega (arith, l), λ f. ne_eqb i.stamp (t.last_stamp + 1) (λ e. omega (arith, e, l)))) t.interfaces below
 
   pub first_fits : Fits n guid value (t.last_stamp + 1) (begun n guid value x.stamp t)
   first_fits = record {
-    known = known;
+    known = live_number;
     given = omega arith;
     there = found_put n guid value x.stamp t.interfaces ∙ ap is_some found;
     values = all_mapped (λ i. is_at n guid i ≡ true → i.value ≡ value) (λ i. Unit {0}) (restamped n guid value x.stamp) (λ i u e. put_value n guid value x.stamp i e) t.interfaces (all_of (λ i. Unit {0}) (λ i. tt) t.interfaces);
@@ -315,21 +311,6 @@ module _ (n : ℕ) (guid : List ℕ) (value : ℕ) (t : HandleTable) (x : Interf
         h.1 ∙ ap (λ (q : Progress). q.opens) (sym whole),
         h.2 ∙ ap (λ (q : Progress). given ++ q.events) (sym whole),
       )
-
--- ---- beside handles that go
-
--- handles that may stay may do so while an interface is connected with its stamp of before
-pub may_leave_begun : (ns : List ℕ) (n : ℕ) (guid : List ℕ) (value own : ℕ) (t : HandleTable) → MayLeave ns t → MayLeave ns (begun n guid value own t)
-may_leave_begun ns n guid value own t h = record {
-  ascending = h.ascending;
-  given = h.given;
-  count = h.count;
-}
-
-pub begun_beside : (ns : List ℕ) (n : ℕ) (guid : List ℕ) (value own : ℕ) (t : HandleTable) → without_handles ns (begun n guid value own t) ≡ begun n guid value own (without_handles ns t)
-begun_beside ns n guid value own t =
-    ap (λ (is : List Interface). record (without_handles ns (begun n guid value own t)) { interfaces = is })
-    (filter_changed (restamped n guid value own) (λ (i : Interface). not (is_one_of ns i.handle)) (λ i. ap (λ (m : ℕ). not (is_one_of ns m)) (restamped_handle n guid value own i)) t.interfaces)
 
 -- ---- a stamp that is taken back
 

@@ -2,22 +2,22 @@
 use Rattle.std.proofs.Common.{◌≡◌, ℕ, zero, suc, ◌+◌, ◌-◌, ◌<◌, ◌≤◌, List, [], ◌∷◌, ◌++◌, length, inl, inr, refl, sym, ap, ◌∙◌, arith, length-append}
 use Rattle.std.proofs.lemmas.Bool.{cases_Bool}
 use Rattle.guid_handles.specs.HandleTables.{HandleTable}
-use Rattle.open_agents.specs.declared.items.Manager.{Manager}
+use Rattle.guid_handles.specs.declared.records.Pair.{Pair}
 use Rattle.open_agents.specs.declared.items.OpenRecord.{OpenRecord}
 use Rattle.driver_connect.specs.Stopping.{has_pair, with_pair, with_pairs, managers_of_made, round, rounds}
 
-with_pair-longer : (pairs : List Manager) (p : Manager) → length pairs ≤ length (with_pair pairs p)
+with_pair-longer : (pairs : List Pair) (p : Pair) → length pairs ≤ length (with_pair pairs p)
 with_pair-longer pairs p = elim (cases_Bool (has_pair pairs p)) [
   | inl e ↦ rw e (omega arith)
   | inr e ↦ rw e (omega (arith, length-append pairs (p ∷ [])))
 ]
 
-pub with_pairs-longer : (pairs ps : List Manager) → length pairs ≤ length (with_pairs pairs ps)
+pub with_pairs-longer : (pairs ps : List Pair) → length pairs ≤ length (with_pairs pairs ps)
 with_pairs-longer pairs [] = omega arith
 with_pairs-longer pairs (p ∷ ps) = omega (arith, with_pair-longer pairs p, with_pairs-longer (with_pair pairs p) ps)
 
 -- a set that is as long as before is as before
-pub none_joined : (pairs ps : List Manager) → length (with_pairs pairs ps) ≡ length pairs → with_pairs pairs ps ≡ pairs
+pub none_joined : (pairs ps : List Pair) → length (with_pairs pairs ps) ≡ length pairs → with_pairs pairs ps ≡ pairs
 none_joined pairs [] h = refl
 none_joined pairs (p ∷ ps) h = elim (cases_Bool (has_pair pairs p)) [
   | inl e ↦ rw e (none_joined pairs ps (rw e at h))
@@ -28,16 +28,16 @@ none_joined pairs (p ∷ ps) h = elim (cases_Bool (has_pair pairs p)) [
 ]
 
 -- once a round adds nothing, no further round does
-pub rounds_end : (k : ℕ) (t : HandleTable) (opens : List OpenRecord) (set : List Manager) → round t opens set ≡ set → rounds k t opens set ≡ set
+pub rounds_end : (k : ℕ) (t : HandleTable) (opens : List OpenRecord) (set : List Pair) → round t opens set ≡ set → rounds k t opens set ≡ set
 rounds_end zero t opens set h = refl
 rounds_end (suc k) t opens set h = ap (rounds k t opens) h ∙ rounds_end k t opens set h
 
 -- one round fewer is left
-pub next_round : (count k : ℕ) (t : HandleTable) (opens : List OpenRecord) (set whole : List Manager) → k < count → rounds (count - k) t opens set ≡ whole
+pub next_round : (count k : ℕ) (t : HandleTable) (opens : List OpenRecord) (set whole : List Pair) → k < count → rounds (count - k) t opens set ≡ whole
     → rounds (count - (k + 1)) t opens (round t opens set) ≡ whole
 next_round count k t opens set whole l h = let e : count - k ≡ suc (count - (k + 1)) = omega arith in rw e at h
 
-pub last_round : (count k : ℕ) (t : HandleTable) (opens : List OpenRecord) (set whole : List Manager) → rounds (count - k) t opens set ≡ whole
+pub last_round : (count k : ℕ) (t : HandleTable) (opens : List OpenRecord) (set whole : List Pair) → rounds (count - k) t opens set ≡ whole
     → length (round t opens set) ≡ length set → round t opens set ≡ whole
 last_round count k t opens set whole h same =
     let e = none_joined set (managers_of_made t opens set) same in

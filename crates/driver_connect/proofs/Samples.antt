@@ -3,12 +3,10 @@ use Rattle.std.proofs.Common.{◌≡◌, ℕ, ◌==◌, ◌&&◌, Bool, true, fa
 use Rattle.std.specs.List.{list_any}
 use Rattle.guid_handles.specs.declared.records.Interface.{Interface}
 use Rattle.guid_handles.specs.declared.records.LiveHandle.{LiveHandle}
-use Rattle.guid_handles.specs.declared.records.Maker.{Maker}
+use Rattle.guid_handles.specs.declared.records.Pair.{Pair}
 use Rattle.guid_handles.specs.HandleTables.{HandleTable, numbers, maker_of, same_guid}
-use Rattle.open_agents.specs.declared.items.Manager.{Manager}
 use Rattle.open_agents.specs.declared.items.OpenRecord.{OpenRecord}
 use Rattle.driver_connect.specs.declared.agents.Agent.{Agent}
-use Rattle.driver_connect.specs.declared.stopping.Opener.{Opener}
 use Rattle.driver_connect.specs.Drivers.{Meaning, Plan, is_free, protocols_on, driver_binding, driver_of}
 use Rattle.driver_connect.specs.Stopping.{stop_set, made_by, can_be_stopped, without_handles, without_opens, managers_meant}
 use Rattle.driver_connect.specs.Starting.{site, agents_for, can_start, starts_on}
@@ -17,10 +15,10 @@ use Rattle.driver_connect.specs.Connecting.{connected, first_progress}
 abbrev guid : ℕ → List ℕ
 guid n = n ∷ []
 
-abbrev live : ℕ → Option Maker → LiveHandle
+abbrev live : ℕ → Option Pair → LiveHandle
 live n maker = record { number = n; maker = maker }
 
-abbrev by : ℕ → ℕ → Maker
+abbrev by : ℕ → ℕ → Pair
 by controller agent = record { controller = controller; agent = agent }
 
 abbrev on : ℕ → List ℕ → ℕ → ℕ → Interface
@@ -106,10 +104,10 @@ tree = record table { handles = live 1 None ∷ live 2 None ∷ live 3 None ∷ 
 abbrev opened : List OpenRecord
 opened = item 1 (guid 1) 2 1 0x10 ∷ item 5 (guid 1) 2 5 0x10 ∷ item 1 (guid 2) 3 1 0x10 ∷ item 6 (guid 1) 0 0 0x2 ∷ []
 
-abbrev pair : ℕ → ℕ → Manager
+abbrev pair : ℕ → ℕ → Pair
 pair controller agent = record { controller = controller; agent = agent }
 
-abbrev opener : ℕ → ℕ → Opener
+abbrev opener : ℕ → ℕ → Pair
 opener agent controller = record { agent = agent; controller = controller }
 
 stopped_pairs : stop_set tree opened (pair 1 2 ∷ []) ≡ pair 1 2 ∷ pair 5 2 ∷ []
@@ -124,7 +122,7 @@ managers = refl
 manager : managers_meant opened 1 3 ≡ pair 1 3 ∷ []
 manager = refl
 
-abbrev can : List OpenRecord → ℕ → Option Opener → Bool
+abbrev can : List OpenRecord → ℕ → Option Pair → Bool
 can opens handle by = can_be_stopped drivers tree opens (pair 1 2 ∷ pair 5 2 ∷ []) handle by
 
 -- not for a handle that goes or an opener that goes

@@ -3,29 +3,28 @@ use Rattle.std.proofs.Common.{◌≡◌, ◌⊎◌, ℕ, zero, suc, ◌+◌, ◌
 use Rattle.std.specs.List.{filter}
 use Rattle.std.proofs.lemmas.Bool.{cases_Bool}
 use Rattle.std.proofs.lemmas.Bool.Decides.{eqb_tells}
-use Rattle.guid_handles.specs.declared.records.Maker.{Maker}
+use Rattle.guid_handles.specs.declared.records.Pair.{Pair}
 use Rattle.guid_handles.specs.HandleTables.{HandleTable, maker_of}
 use Rattle.guid_handles.proofs.SortedLists.{filter_shorter}
-use Rattle.open_agents.specs.declared.items.Manager.{Manager}
 use Rattle.open_agents.specs.declared.items.OpenRecord.{OpenRecord}
 use Rattle.open_agents.specs.Blocks.{items_in}
 use Rattle.open_agents.specs.OpenItems.{is_for_driver, manager_of}
-use Rattle.driver_connect.specs.Stopping.{same_pair, has_pair, with_pair, with_pairs, is_maker, maker_pair, manages_made, managers_of_made, round, rounds, stop_set}
+use Rattle.driver_connect.specs.Stopping.{same_pair, has_pair, with_pair, with_pairs, is_maker, manages_made, managers_of_made, round, rounds, stop_set}
 use Rattle.driver_connect.specs.Laws.{IsClosed}
 use Rattle.driver_connect.proofs.Filters.{any_more}
 use Rattle.driver_connect.proofs.Rounds.{rounds_end}
 
 -- each pair of one set is in another
-abbrev pub IsWithin : List Manager → List Manager → Type 0
-IsWithin s u = (p : Manager) → has_pair s p ≡ true → has_pair u p ≡ true
+abbrev pub IsWithin : List Pair → List Pair → Type 0
+IsWithin s u = (p : Pair) → has_pair s p ≡ true → has_pair u p ≡ true
 
-abbrev pair : ℕ → ℕ → Manager
+abbrev pair : ℕ → ℕ → Pair
 pair controller agent = record { controller = controller; agent = agent }
 
-equal_parts : (p q : Manager) → p.controller ≡ q.controller → p.agent ≡ q.agent → p ≡ q
+equal_parts : (p q : Pair) → p.controller ≡ q.controller → p.agent ≡ q.agent → p ≡ q
 equal_parts p q e f = ap (λ n. pair n p.agent) e ∙ ap (pair q.controller) f
 
-pub same_pair-true : (p q : Manager) → same_pair p q ≡ true → p ≡ q
+pub same_pair-true : (p q : Pair) → same_pair p q ≡ true → p ≡ q
 same_pair-true p q h = elim (eqb_tells p.controller q.controller) [
   | inl a ↦ elim (eqb_tells p.agent q.agent) [
     | inl b ↦ equal_parts p q a.1 b.1
@@ -34,7 +33,7 @@ same_pair-true p q h = elim (eqb_tells p.controller q.controller) [
   | inr a ↦ let k = rw a.0 at h in cc
 ]
 
-pub same_pair-refl : (p : Manager) → same_pair p p ≡ true
+pub same_pair-refl : (p : Pair) → same_pair p p ≡ true
 same_pair-refl p = elim (eqb_tells p.controller p.controller) [
   | inl a ↦ elim (eqb_tells p.agent p.agent) [
     | inl b ↦ rw a.0 (rw b.0 refl)
@@ -45,30 +44,30 @@ same_pair-refl p = elim (eqb_tells p.controller p.controller) [
 
 -- ---- pairs that join
 
-keeps : (s : List Manager) (p : Manager) → IsWithin s (with_pair s p)
+keeps : (s : List Pair) (p : Pair) → IsWithin s (with_pair s p)
 keeps s p q h = elim (cases_Bool (has_pair s p)) [
   | inl e ↦ rw e h
   | inr e ↦ rw e (any_more (same_pair q) s p ∙ rw h refl)
 ]
 
-adds : (s : List Manager) (p : Manager) → has_pair (with_pair s p) p ≡ true
+adds : (s : List Pair) (p : Pair) → has_pair (with_pair s p) p ≡ true
 adds s p = elim (cases_Bool (has_pair s p)) [
   | inl e ↦ rw e e
   | inr e ↦ rw e (any_more (same_pair p) s p ∙ rw e (same_pair-refl p))
 ]
 
-pub keeps_all : (s ps : List Manager) → IsWithin s (with_pairs s ps)
+pub keeps_all : (s ps : List Pair) → IsWithin s (with_pairs s ps)
 keeps_all s [] q h = h
 keeps_all s (p ∷ ps) q h = keeps_all (with_pair s p) ps q (keeps s p q h)
 
-pub adds_all : (s ps : List Manager) → IsWithin ps (with_pairs s ps)
+pub adds_all : (s ps : List Pair) → IsWithin ps (with_pairs s ps)
 adds_all s [] q h = cc
 adds_all s (p ∷ ps) q h = elim (cases_Bool (same_pair q p)) [
   | inl e ↦ keeps_all (with_pair s p) ps q (rw (same_pair-true q p e) (adds s p))
   | inr e ↦ adds_all (with_pair s p) ps q (rw e at h)
 ]
 
-one_within : (s : List Manager) (p : Manager) (u : List Manager) → IsWithin s u → has_pair u p ≡ true → IsWithin (with_pair s p) u
+one_within : (s : List Pair) (p : Pair) (u : List Pair) → IsWithin s u → has_pair u p ≡ true → IsWithin (with_pair s p) u
 one_within s p u w h q k = elim (cases_Bool (has_pair s p)) [
   | inl e ↦ w q (rw e at k)
   | inr e ↦ elim (cases_Bool (has_pair s q)) [
@@ -77,7 +76,7 @@ one_within s p u w h q k = elim (cases_Bool (has_pair s p)) [
   ]
 ]
 
-pub all_within : (s ps u : List Manager) → IsWithin s u → IsWithin ps u → IsWithin (with_pairs s ps) u
+pub all_within : (s ps u : List Pair) → IsWithin s u → IsWithin ps u → IsWithin (with_pairs s ps) u
 all_within s [] u w v = w
 all_within s (p ∷ ps) u w v =
     all_within (with_pair s p) ps u (one_within s p u w (v p (rw (same_pair-refl p) refl)))
@@ -88,17 +87,17 @@ all_within s (p ∷ ps) u w v =
 
 -- ---- what a larger set makes
 
-maker_within : (s u : List Manager) → IsWithin s u → (m : Option Maker) → is_maker s m ≡ true → is_maker u m ≡ true
+maker_within : (s u : List Pair) → IsWithin s u → (m : Option Pair) → is_maker s m ≡ true → is_maker u m ≡ true
 maker_within s u w None h = h
-maker_within s u w (Some p) h = w (maker_pair p) h
+maker_within s u w (Some p) h = w p h
 
-manages_within : (t : HandleTable) (s u : List Manager) → IsWithin s u → (o : OpenRecord) → manages_made t s o ≡ true → manages_made t u o ≡ true
+manages_within : (t : HandleTable) (s u : List Pair) → IsWithin s u → (o : OpenRecord) → manages_made t s o ≡ true → manages_made t u o ≡ true
 manages_within t s u w o h = elim (cases_Bool (is_for_driver o.attributes)) [
   | inl e ↦ rw e (maker_within s u w (maker_of t o.controller) (rw e at h))
   | inr e ↦ let k = rw e at h in cc
 ]
 
-pub managers_within : (t : HandleTable) (opens : List OpenRecord) (s u : List Manager) → IsWithin s u → IsWithin (managers_of_made t opens s) (managers_of_made t opens u)
+pub managers_within : (t : HandleTable) (opens : List OpenRecord) (s u : List Pair) → IsWithin s u → IsWithin (managers_of_made t opens s) (managers_of_made t opens u)
 managers_within t [] s u w q h = h
 managers_within t (o ∷ os) s u w q h = elim (cases_Bool (manages_made t s o)) [
   | inl e ↦ rw (manages_within t s u w o e) (elim (cases_Bool (same_pair q (manager_of o))) [
@@ -116,17 +115,17 @@ managers_within t (o ∷ os) s u w q h = elim (cases_Bool (manages_made t s o)) 
       ]
 ]
 
-rounds_within : (k : ℕ) (t : HandleTable) (opens : List OpenRecord) (s u : List Manager) → IsWithin s u → IsWithin (managers_of_made t opens u) u → IsWithin (rounds k t opens s) u
+rounds_within : (k : ℕ) (t : HandleTable) (opens : List OpenRecord) (s u : List Pair) → IsWithin s u → IsWithin (managers_of_made t opens u) u → IsWithin (rounds k t opens s) u
 rounds_within zero t opens s u w c = w
 rounds_within (suc k) t opens s u w c =
     rounds_within k t opens (round t opens s) u (all_within s (managers_of_made t opens s) u w (λ p h. c p (managers_within t opens s u w p h))) c
 
 -- ---- items whose pairs are missing
 
-abbrev pub missing : List Manager → List OpenRecord → ℕ
+abbrev pub missing : List Pair → List OpenRecord → ℕ
 missing s opens = length (filter (λ o. not (has_pair s (manager_of o))) opens)
 
-missing_within : (s u : List Manager) → IsWithin s u → (opens : List OpenRecord) → missing u opens ≤ missing s opens
+missing_within : (s u : List Pair) → IsWithin s u → (opens : List OpenRecord) → missing u opens ≤ missing s opens
 missing_within s u w [] = omega arith
 missing_within s u w (o ∷ os) = elim (cases_Bool (has_pair s (manager_of o))) [
   | inl e ↦ rw e (rw (w (manager_of o) e) (missing_within s u w os))
@@ -137,7 +136,7 @@ missing_within s u w (o ∷ os) = elim (cases_Bool (has_pair s (manager_of o))) 
 ]
 
 -- a pair of an item that joins is missing no more
-fewer_missing : (s : List Manager) (p : Manager) (opens : List OpenRecord) → has_pair s p ≡ false → has_pair (map manager_of opens) p ≡ true → missing (with_pair s p) opens < missing s opens
+fewer_missing : (s : List Pair) (p : Pair) (opens : List OpenRecord) → has_pair s p ≡ false → has_pair (map manager_of opens) p ≡ true → missing (with_pair s p) opens < missing s opens
 fewer_missing s p [] a h = cc
 fewer_missing s p (o ∷ os) a h = elim (cases_Bool (same_pair p (manager_of o))) [
   | inl e ↦
@@ -157,7 +156,7 @@ fewer_missing s p (o ∷ os) a h = elim (cases_Bool (same_pair p (manager_of o))
 ]
 
 -- pairs of items either join nothing, or fewer are missing
-join_or_none : (s ps : List Manager) (opens : List OpenRecord) → IsWithin ps (map manager_of opens) → (with_pairs s ps ≡ s) ⊎ (missing (with_pairs s ps) opens < missing s opens)
+join_or_none : (s ps : List Pair) (opens : List OpenRecord) → IsWithin ps (map manager_of opens) → (with_pairs s ps ≡ s) ⊎ (missing (with_pairs s ps) opens < missing s opens)
 join_or_none s [] opens w = inl refl
 join_or_none s (p ∷ ps) opens w =
     let rest : IsWithin ps (map manager_of opens) = λ q h. w q (elim (cases_Bool (same_pair q p)) [ inl e ↦ rw e refl | inr e ↦ rw e h ]) in
@@ -169,7 +168,7 @@ join_or_none s (p ∷ ps) opens w =
           inr (omega (arith, a, b))
     ]
 
-managers_are_items : (t : HandleTable) (opens : List OpenRecord) (s : List Manager) → IsWithin (managers_of_made t opens s) (map manager_of opens)
+managers_are_items : (t : HandleTable) (opens : List OpenRecord) (s : List Pair) → IsWithin (managers_of_made t opens s) (map manager_of opens)
 managers_are_items t [] s q h = h
 managers_are_items t (o ∷ os) s q h = elim (cases_Bool (same_pair q (manager_of o))) [
   | inl e ↦ rw e refl
@@ -180,7 +179,7 @@ managers_are_items t (o ∷ os) s q h = elim (cases_Bool (same_pair q (manager_o
 ]
 
 -- this many rounds are enough
-enough : (k : ℕ) (t : HandleTable) (opens : List OpenRecord) (s : List Manager) → missing s opens ≤ k → round t opens (rounds k t opens s) ≡ rounds k t opens s
+enough : (k : ℕ) (t : HandleTable) (opens : List OpenRecord) (s : List Pair) → missing s opens ≤ k → round t opens (rounds k t opens s) ≡ rounds k t opens s
 enough zero t opens s l = elim (join_or_none s (managers_of_made t opens s) opens (managers_are_items t opens s)) [
   | inl e ↦ e
   | inr f ↦ absurd (omega (arith, l, f))
@@ -192,32 +191,32 @@ enough (suc k) t opens s l = elim (join_or_none s (managers_of_made t opens s) o
 
 -- ---- the laws
 
-pub is_settled : (t : HandleTable) (opens : List OpenRecord) (pairs : List Manager) → round t opens (stop_set t opens pairs) ≡ stop_set t opens pairs
+pub is_settled : (t : HandleTable) (opens : List OpenRecord) (pairs : List Pair) → round t opens (stop_set t opens pairs) ≡ stop_set t opens pairs
 is_settled t opens pairs =
     enough (length t.handles + length opens) t opens (with_pairs [] pairs) (omega (arith, filter_shorter (λ o. not (has_pair (with_pairs [] pairs) (manager_of o))) opens))
 
-rounds_keep : (k : ℕ) (t : HandleTable) (opens : List OpenRecord) (s : List Manager) → IsWithin s (rounds k t opens s)
+rounds_keep : (k : ℕ) (t : HandleTable) (opens : List OpenRecord) (s : List Pair) → IsWithin s (rounds k t opens s)
 rounds_keep zero t opens s p h = h
 rounds_keep (suc k) t opens s p h = rounds_keep k t opens (round t opens s) p (keeps_all s (managers_of_made t opens s) p h)
 
-pub is_closed : (t : HandleTable) (opens : List OpenRecord) (pairs : List Manager) → IsClosed t opens pairs (stop_set t opens pairs)
+pub is_closed : (t : HandleTable) (opens : List OpenRecord) (pairs : List Pair) → IsClosed t opens pairs (stop_set t opens pairs)
 is_closed t opens pairs = record {
   given = λ p h. rounds_keep (length t.handles + length opens) t opens (with_pairs [] pairs) p (adds_all [] pairs p h);
   managers = λ p h. rw (is_settled t opens pairs) at (adds_all (stop_set t opens pairs) (managers_of_made t opens (stop_set t opens pairs)) p h);
 }
 
-pub is_least : (t : HandleTable) (opens : List OpenRecord) (pairs set : List Manager) → IsClosed t opens pairs set → IsWithin (stop_set t opens pairs) set
+pub is_least : (t : HandleTable) (opens : List OpenRecord) (pairs set : List Pair) → IsClosed t opens pairs set → IsWithin (stop_set t opens pairs) set
 is_least t opens pairs set c =
     rounds_within (length t.handles + length opens) t opens (with_pairs [] pairs) set (all_within [] pairs set (λ p h. absurd (let e : false ≡ true = h in cc)) c.given) c.managers
 
 -- ---- more rounds
 
-rounds_sum : (k j : ℕ) (t : HandleTable) (opens : List OpenRecord) (s : List Manager) → rounds (k + j) t opens s ≡ rounds j t opens (rounds k t opens s)
+rounds_sum : (k j : ℕ) (t : HandleTable) (opens : List OpenRecord) (s : List Pair) → rounds (k + j) t opens s ≡ rounds j t opens (rounds k t opens s)
 rounds_sum zero j t opens s = ap (λ n. rounds n t opens s) (let e : 0 + j ≡ j = omega arith in e)
 rounds_sum (suc k) j t opens s = ap (λ n. rounds n t opens s) (let e : suc k + j ≡ suc (k + j) = omega arith in e) ∙ rounds_sum k j t opens (round t opens s)
 
 -- rounds beyond the number of handles and items add nothing
-pub more_rounds : (most : ℕ) (t : HandleTable) (opens : List OpenRecord) (pairs : List Manager) → length t.handles + length opens ≤ most → rounds most t opens (with_pairs [] pairs) ≡ stop_set t opens pairs
+pub more_rounds : (most : ℕ) (t : HandleTable) (opens : List OpenRecord) (pairs : List Pair) → length t.handles + length opens ≤ most → rounds most t opens (with_pairs [] pairs) ≡ stop_set t opens pairs
 more_rounds most t opens pairs l =
     let least = length t.handles + length opens in
     let rest : most ≡ least + (most - least) = omega (arith, l) in

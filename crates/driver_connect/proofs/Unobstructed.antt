@@ -4,7 +4,7 @@ use Rattle.std.specs.List.{filter, list_all}
 use Rattle.std.proofs.lemmas.Bool.{cases_Bool}
 use Rattle.guid_handles.specs.HandleTables.{HandleTable}
 use Rattle.guid_handles.proofs.SortedLists.{drop_next}
-use Rattle.open_agents.specs.declared.items.Manager.{Manager}
+use Rattle.guid_handles.specs.declared.records.Pair.{Pair}
 use Rattle.open_agents.specs.declared.items.OpenRecord.{OpenRecord}
 use Rattle.open_agents.specs.Blocks.{is_near}
 use Rattle.open_agents.proofs.Asked.{handle_near}
@@ -64,7 +64,7 @@ same_all p q h [] = refl
 same_all p q h (o ∷ os) = ap (λ b. b && list_all p os) (h o) ∙ ap (λ b. q o && b) (same_all p q h os)
 
 -- the items on the handles that a set made are no obstacles where those on each of them are none
-pub handle_by_handle : (t : HandleTable) (opens : List OpenRecord) (set : List Manager) (made : List ℕ) → made ≡ made_by t set
+pub handle_by_handle : (t : HandleTable) (opens : List OpenRecord) (set : List Pair) (made : List ℕ) → made ≡ made_by t set
     → list_all (λ n. list_all (on_only (is_no_obstacle t set) n) opens) made ≡ is_unobstructed t opens set
 handle_by_handle t opens set made e =
     ap (list_all (λ n. list_all (on_only (is_no_obstacle t set) n) opens)) e

@@ -1,12 +1,11 @@
 -- What a start, the passes and a stop leave, from what their parts leave.
 use Rattle.std.proofs.Common.{◌≡◌, ℕ, ◌-◌, ◌≤◌, Bool, true, List, [], ◌++◌, Option, refl, sym, ap, ◌∙◌, append-nil, arith}
 use Rattle.guid_handles.specs.HandleTables.{HandleTable}
-use Rattle.open_agents.specs.declared.items.Manager.{Manager}
+use Rattle.guid_handles.specs.declared.records.Pair.{Pair}
 use Rattle.open_agents.specs.declared.items.OpenRecord.{OpenRecord}
 use Rattle.protocol_notify.specs.declared.notify.Registration.{Registration}
 use Rattle.driver_connect.specs.declared.agents.Agent.{Agent}
 use Rattle.driver_connect.specs.declared.starting.Start.{Start}
-use Rattle.driver_connect.specs.declared.stopping.Opener.{Opener}
 use Rattle.driver_connect.specs.Drivers.{Meaning, Plan}
 use Rattle.driver_connect.specs.Starting.{Site, Progress, Passed, with_driver_items, with_children, events_of_all, carried_out, joined, passes}
 use Rattle.driver_connect.specs.Stopping.{PlannedStop, planned_stop, without_handles, without_opens, can_be_stopped, Stops}
@@ -31,7 +30,7 @@ passes_done c starts agents n k p whole l h =
     (sym (append-nil starts) ∙ ap (λ r. r.starts) w, ap (λ r. r.progress) w)
 
 -- a stop that could be made was carried out
-pub stopped_whole : (ds : List Meaning) (t : HandleTable) (opens : List OpenRecord) (pairs : List Manager) (handle : ℕ) (opener : Option Opener) (plan : PlannedStop) (can : Bool) (new_t : HandleTable) (new_opens : List OpenRecord)
+pub stopped_whole : (ds : List Meaning) (t : HandleTable) (opens : List OpenRecord) (pairs : List Pair) (handle : ℕ) (opener : Option Pair) (plan : PlannedStop) (can : Bool) (new_t : HandleTable) (new_opens : List OpenRecord)
     → plan ≡ planned_stop t opens pairs → can ≡ can_be_stopped ds t opens plan.pairs handle opener → can ≡ true
     → new_t ≡ without_handles plan.handles t → new_opens ≡ without_opens plan.handles plan.pairs opens
     → Stops ds t opens pairs handle opener true new_t new_opens

@@ -5,7 +5,7 @@ use Rattle.guid_handles.specs.declared.records.Interface.{Interface}
 use Rattle.guid_handles.specs.declared.records.LiveHandle.{LiveHandle}
 use Rattle.guid_handles.specs.HandleTables.{HandleTable}
 use Rattle.open_agents.specs.declared.items.OpenRecord.{OpenRecord}
-use Rattle.driver_connect.specs.Beside.{Draft}
+use Rattle.driver_connect.specs.Starting.{Progress}
 
 -- Behind the handles and interfaces that there were are others, on handles with later numbers.
 pub record HasMade (old new : HandleTable) : Type 0 where
@@ -24,8 +24,7 @@ pub record HasOpened (old new : List OpenRecord) : Type 0 where
   pub opened : List OpenRecord
   pub items : new ≡ old ++ opened
 
--- A connect has come further, beside the same handles that go.
-pub record GoesOn (old new : Draft) : Type 0 where
+-- A connect has come further.
+pub record GoesOn (old new : Progress) : Type 0 where
   pub handles : HasMade old.handles new.handles
   pub opens : HasOpened old.opens new.opens
-  pub leaving : new.leaving ≡ old.leaving

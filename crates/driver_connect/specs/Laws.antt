@@ -2,40 +2,38 @@
 use Rattle.std.specs.Prelude.{◌≡◌, ℕ, ◌==◌, ◌&&◌, ◌++◌, Bool, true, false, List, [], Option, Some, None}
 use Rattle.std.specs.List.{filter, list_any, AllByRecursion}
 use Rattle.guid_handles.specs.declared.records.LiveHandle.{LiveHandle}
-use Rattle.guid_handles.specs.declared.records.Maker.{Maker}
+use Rattle.guid_handles.specs.declared.records.Pair.{Pair}
 use Rattle.guid_handles.specs.HandleTables.{HandleTable, has_number, is_on}
 use Rattle.guid_handles.specs.HandleChanges.{IsHandleTable}
 use Rattle.guid_handles.specs.Sorting.{Ascending}
-use Rattle.open_agents.specs.declared.items.Manager.{Manager}
 use Rattle.open_agents.specs.declared.items.OpenRecord.{OpenRecord}
 use Rattle.open_agents.specs.OpenItems.{is_of_pair, names}
 use Rattle.driver_connect.specs.declared.agents.Agent.{Agent}
 use Rattle.driver_connect.specs.Stopping.{has_pair, managers_of_made, rounds, stop_set, is_one_of, without_handles, without_opens}
 use Rattle.driver_connect.specs.Starting.{IsNotLower, by_version, Site, Progress, starts_on, is_any_carried_out}
-use Rattle.driver_connect.specs.Readiness.{is_any_ready}
 use Rattle.driver_connect.specs.Connecting.{connected}
 
 -- ---- the stop set
 
 -- A set holds some pairs, and each pair that manages a handle that a pair of the set made.
 pub record IsClosed (t : HandleTable) (opens : List OpenRecord)
-    (pairs set : List Manager) : Type 0 where
-  pub given : (p : Manager) → has_pair pairs p ≡ true → has_pair set p ≡ true
-  pub managers : (p : Manager) → has_pair (managers_of_made t opens set) p ≡ true
+    (pairs set : List Pair) : Type 0 where
+  pub given : (p : Pair) → has_pair pairs p ≡ true → has_pair set p ≡ true
+  pub managers : (p : Pair) → has_pair (managers_of_made t opens set) p ≡ true
       → has_pair set p ≡ true
 
 -- The stop set of some pairs is the least such set.
 abbrev pub StopSetLaw : Type 0
 StopSetLaw =
-    (t : HandleTable) (opens : List OpenRecord) (pairs : List Manager) →
+    (t : HandleTable) (opens : List OpenRecord) (pairs : List Pair) →
     IsClosed t opens pairs (stop_set t opens pairs)
-    × ((set : List Manager) → IsClosed t opens pairs set → (p : Manager)
+    × ((set : List Pair) → IsClosed t opens pairs set → (p : Pair)
     → has_pair (stop_set t opens pairs) p ≡ true → has_pair set p ≡ true)
 
 -- No further round adds anything to it.
 abbrev pub RoundsLaw : Type 0
 RoundsLaw =
-    (k : ℕ) (t : HandleTable) (opens : List OpenRecord) (pairs : List Manager)
+    (k : ℕ) (t : HandleTable) (opens : List OpenRecord) (pairs : List Pair)
     → rounds k t opens (stop_set t opens pairs) ≡ stop_set t opens pairs
 
 -- ---- what stopping takes out
@@ -43,7 +41,7 @@ RoundsLaw =
 -- Of the handles that go, no interface is left, and no item that names one.
 abbrev pub GoneLaw : Type 0
 GoneLaw =
-    (ns : List ℕ) (pairs : List Manager) (t : HandleTable) (opens : List OpenRecord) (n : ℕ)
+    (ns : List ℕ) (pairs : List Pair) (t : HandleTable) (opens : List OpenRecord) (n : ℕ)
     → is_one_of ns n ≡ true →
     (filter (has_number n) (without_handles ns t).handles ≡ [])
     × (filter (is_on n) (without_handles ns t).interfaces ≡ [])
@@ -66,14 +64,6 @@ VersionsLaw =
     × ((v : ℕ)
     → filter (λ a. a.version == v) (by_version [] agents) ≡ filter (λ a. a.version == v) agents)
 
--- A start on the handle is carried out exactly where, before all of them, one of the drivers is
--- ready.
-abbrev pub ReadyLaw : Type 0
-ReadyLaw =
-    (c : Site) (named : List ℕ) (p : Progress)
-    → is_any_carried_out (starts_on c named p).starts
-    ≡ is_any_ready c.drivers p.handles p.opens c.controller named
-
 -- Where no start on the handle is carried out, all stays as it was, however deep the connect goes.
 abbrev pub NothingCarriedOutLaw : Type 0
 NothingCarriedOutLaw =
@@ -81,7 +71,7 @@ NothingCarriedOutLaw =
     → is_any_carried_out (starts_on c named p).starts ≡ false → connected levels c named p ≡ p
 
 -- an item of BY_DRIVER of a handle's maker
-abbrev pub is_of_maker : Option Maker → OpenRecord → Bool
+abbrev pub is_of_maker : Option Pair → OpenRecord → Bool
 is_of_maker None o = false
 is_of_maker (Some m) o = is_of_pair m.controller m.agent o && (o.attributes == 0x10)
 

@@ -1,17 +1,12 @@
 pub mod Drivers
 pub mod Stopping
-pub mod PairSets
 pub mod Room
 pub mod Starting
-pub mod Readiness
 pub mod Connecting
 pub mod Laws
 pub mod Turns
 pub mod StartOrder
 pub mod DriverTurns
 pub mod StopOrder
-pub mod AfterStop
-pub mod Beside
-pub mod BesideSteps
 pub mod GoingOn
 pub mod Pending

@@ -1,7 +1,7 @@
 -- Starting drivers on one handle.
 use Rattle.std.specs.Prelude.{ℕ, zero, suc, ◌+◌, ◌≤◌, ◌==◌, ◌&&◌, ◌||◌, nat_le, Bool, false, not, cond, List, [], ◌∷◌, ◌++◌, length, map, Option, Some, None}
 use Rattle.std.specs.List.{list_any, list_all, insert, cons_option}
-use Rattle.guid_handles.specs.declared.records.Maker.{Maker}
+use Rattle.guid_handles.specs.declared.records.Pair.{Pair}
 use Rattle.guid_handles.specs.HandleTables.{HandleTable, same_guid, holders_of}
 use Rattle.guid_handles.specs.HandleChanges.{max_handles, has_guid_twice, with_interfaces, with_handle}
 use Rattle.guid_handles.specs.Sorting.{place}
@@ -113,11 +113,11 @@ with_driver_items controller agent (g ∷ gs) opens =
     with_driver_items controller agent gs (with_item controller g agent controller 0x10 opens)
 
 -- a new handle of a maker, with interfaces
-abbrev pub with_child : Maker → List (List ℕ × ℕ) → HandleTable → HandleTable
+abbrev pub with_child : Pair → List (List ℕ × ℕ) → HandleTable → HandleTable
 with_child maker pairs t = with_interfaces (t.last_number + 1) pairs (with_handle (Some maker) t)
 
 -- a new handle of a maker for each child, in order
-abbrev pub with_children : Maker → List (List (List ℕ × ℕ)) → HandleTable → HandleTable
+abbrev pub with_children : Pair → List (List (List ℕ × ℕ)) → HandleTable → HandleTable
 with_children maker [] t = t
 with_children maker (pairs ∷ children) t = with_children maker children (with_child maker pairs t)
 

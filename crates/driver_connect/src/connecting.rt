@@ -1,9 +1,7 @@
 //! Connecting a handle, and the handles that are made.
 ghost use Rattle.std.specs.Prelude.{◌≡◌, ◌+◌, ◌<◌, ◌≤◌, ◌^◌, ◌++◌, true, false, [], length, IfOk, OnOk, OnErr};
 ghost use Rattle.driver_connect.specs.Connecting as spec;
-ghost use Rattle.driver_connect.specs.Connecting.{ConnectsBy};
-ghost use Rattle.driver_connect.specs.Beside.{MayLeave, reached};
-ghost use Rattle.driver_connect.specs.BesideSteps.{ConnectsBeside, ConnectsTo};
+ghost use Rattle.driver_connect.specs.Connecting.{ConnectsAll, ConnectsBy};
 ghost use Rattle.driver_connect.specs.Pending.{ConnectsOne, GrowsWith, first_last};
 ghost use Rattle.guid_handles.specs.HandleChanges.{max_in_table};
 ghost use Rattle.driver_connect.specs.GoingOn.{GoesOn};
@@ -12,7 +10,6 @@ ghost use Rattle.driver_connect.specs.Starting.{site_of, starts_on, is_any_carri
 
 use crate::driver::Driver;
 use crate::numbers::count_up_to;
-use crate::readiness::is_any_ready;
 use crate::starting::{Connecting, is_any_carried_out, run_passes};
 use guid_handles::Handles;
 use open_agents::Opens;
@@ -65,7 +62,7 @@ fn note_pending<A: Allocator + Copy>(
 /// if there are levels below it. It returns whether a start on the handle was carried out.
 fn connect_one<D: Driver, A: Allocator + Copy>(
     alloc: A,
-    connecting: &mut Connecting<'_, A>,
+    connecting: &mut Connecting<A>,
     drivers: &[D],
     notify: &Notify<A>,
     next: Pending,
@@ -78,7 +75,7 @@ fn connect_one<D: Driver, A: Allocator + Copy>(
         ≡ any
         (starts_on
         (site_of D.meaning drivers.now notify.now next.handle) named.now
-        (reached connecting.old)).starts) }
+        connecting.old).starts) }
     ensures progress { OnOk result
         (ConnectsOne D.meaning drivers.now notify.now next named.now
         pending.old connecting.old pending.new connecting.new) }
@@ -105,7 +102,7 @@ fn connect_one<D: Driver, A: Allocator + Copy>(
 /// the stack as small as for one level.
 fn connect_levels<D: Driver, A: Allocator + Copy>(
     alloc: A,
-    connecting: &mut Connecting<'_, A>,
+    connecting: &mut Connecting<A>,
     drivers: &[D],
     notify: &Notify<A>,
     controller: u64,
@@ -118,10 +115,11 @@ fn connect_levels<D: Driver, A: Allocator + Copy>(
         ≡ any
         (starts_on
         (site_of D.meaning drivers.now notify.now controller) named.now
-        (reached connecting.old)).starts) }
+        connecting.old).starts) }
     ensures progress { OnOk result
-        (ConnectsTo levels (site_of D.meaning drivers.now notify.now controller) named.now
-        connecting.old connecting.new) }
+        (connecting.new
+        ≡ spec.connected levels
+        (site_of D.meaning drivers.now notify.now controller) named.now connecting.old) }
     ensures grows { OnOk result (Grows connecting.old.handles connecting.new.handles) }
     ensures goes_on { GoesOn connecting.old connecting.new }
 {
@@ -181,9 +179,9 @@ fn connect_in_place<D: Driver, A: Allocator + Copy>(
     let number = handles.last_number();
     let stamp = handles.last_stamp();
     let items = opens.len();
-    let mut connecting = Connecting::take(alloc, handles, opens, &[]);
+    let mut connecting = Connecting::take(alloc, handles, opens);
     let levels = if recursive { LEVELS_BELOW } else { 0 };
-    match connect_levels(
+    let connected = connect_levels(
         alloc,
         &mut connecting,
         drivers,
@@ -191,14 +189,14 @@ fn connect_in_place<D: Driver, A: Allocator + Copy>(
         handle,
         named,
         levels,
-    ) {
-        Ok(true) => Ok(connecting.put_in_place(handles, opens)),
-        Ok(false) => {
-            let _events = connecting.put_in_place(handles, opens);
-            Err(Status::NotFound)
-        }
+    );
+    let events = connecting.put_in_place(handles, opens);
+    match connected {
+        Ok(true) => Ok(events),
+        Ok(false) => Err(Status::NotFound),
         Err(_) => {
-            connecting.take_back(handles, opens, number, stamp, items);
+            handles.take_back_to(number, stamp);
+            opens.truncate(items);
             Err(Status::OutOfResources)
         }
     }
@@ -227,31 +225,28 @@ pub fn connect<D: Driver, A: Allocator + Copy>(
     if is_refused(handles, handle, named) {
         return Err(Status::InvalidParameter);
     }
-    match is_any_ready(alloc, handles, opens, drivers, handle, named) {
-        Ok(true) => connect_in_place(
-            alloc, handles, opens, notify, drivers, handle, named, recursive,
-        ),
-        Ok(false) => Err(Status::NotFound),
-        Err(_) => Err(Status::OutOfResources),
-    }
+    connect_in_place(
+        alloc, handles, opens, notify, drivers, handle, named, recursive,
+    )
 }
 
-/// Connects a controller and all that is made below it, with no driver named. It returns the events
-/// given, then those of the connect.
+/// Connects a controller and all that is made below it, with no driver named, and appends the events to
+/// others.
 fn connect_all<D: Driver, A: Allocator + Copy>(
     alloc: A,
-    connecting: &mut Connecting<'_, A>,
+    connecting: &mut Connecting<A>,
     drivers: &[D],
     notify: &Notify<A>,
     controller: u64,
-    given: &[u64],
-) -> Result<Vec<u64, A>, AllocError>
+    events: &mut Vec<u64, A>,
+) -> Result<(), AllocError>
     requires { HasRoom connecting.old.handles }
     ensures progress { OnOk result
-        (reached connecting.new
+        (connecting.new
         ≡ spec.connected_below
-        (site_of D.meaning drivers.now notify.now controller) (reached connecting.old)) }
-    ensures events { IfOk result (λ v. v.items ≡ given.now ++ connecting.new.events) }
+        (site_of D.meaning drivers.now notify.now controller) connecting.old) }
+    ensures events { OnOk result
+        (events.new.items ≡ events.old.items ++ connecting.new.events) }
     ensures grows { OnOk result (Grows connecting.old.handles connecting.new.handles) }
     ensures goes_on { GoesOn connecting.old connecting.new }
 {
@@ -264,47 +259,43 @@ fn connect_all<D: Driver, A: Allocator + Copy>(
         &[],
         LEVELS_BELOW,
     )?;
-    let mut events = Vec::new(alloc);
-    events.extend_from_slice(given)?;
     events.extend_from_slice(connecting.events.as_slice())?;
-    Ok(events)
+    Ok(())
 }
 
-/// Connects a handle and all that is made below it, with no driver named, as if some other handles had
-/// gone, which are left to be removed. It returns the events given, then those of the connect. On an
-/// `Err` nothing changes.
+/// Connects a handle and all that is made below it, with no driver named. It returns the events given,
+/// then those of the connect. On an `Err` nothing changes.
 pub(crate) fn connect_below<D: Driver, A: Allocator + Copy>(
     alloc: A,
     handles: &mut Handles<A>,
     opens: &mut Opens<A>,
-    leaving: &[u64],
     notify: &Notify<A>,
     drivers: &[D],
     handle: u64,
-    given: &[u64],
+    given: Vec<u64, A>,
 ) -> Result<Vec<u64, A>, AllocError>
-    requires leaving { MayLeave leaving.now handles.old }
     requires numbers { handles.old.last_number < 2 ^ 61 }
     requires stamps { handles.old.last_stamp < 2 ^ 61 }
-    ensures ok { ConnectsBeside leaving.now D.meaning drivers.now notify.now
-        handle handles.old opens.old given.now result handles.new opens.new }
+    ensures ok { IfOk result (λ e. ConnectsAll D.meaning drivers.now notify.now
+        handle handles.old opens.old given.items e.items handles.new opens.new) }
     ensures err { OnErr result ((handles.new ≡ handles.old) × (opens.new ≡ opens.old)) }
     ensures numbers { handles.new.last_number ≤ handles.old.last_number + 4096 }
     ensures stamps { handles.new.last_stamp ≤ handles.old.last_stamp + 16384 }
 {
     // The contract of this look-up says that the handles are in order.
     let _numbers = handles.all();
-    let number = handles.last_number();
-    let stamp = handles.last_stamp();
+    let last_number = handles.last_number();
+    let last_stamp = handles.last_stamp();
     let count = opens.len();
-    let mut connecting = Connecting::take(alloc, handles, opens, leaving);
-    match connect_all(alloc, &mut connecting, drivers, notify, handle, given) {
-        Ok(events) => {
-            let _events = connecting.put_in_place(handles, opens);
-            Ok(events)
-        }
+    let mut events = given;
+    let mut connecting = Connecting::take(alloc, handles, opens);
+    let connected = connect_all(alloc, &mut connecting, drivers, notify, handle, &mut events);
+    let _events = connecting.put_in_place(handles, opens);
+    match connected {
+        Ok(()) => Ok(events),
         Err(error) => {
-            connecting.take_back(handles, opens, number, stamp, count);
+            handles.take_back_to(last_number, last_stamp);
+            opens.truncate(count);
             Err(error)
         }
     }

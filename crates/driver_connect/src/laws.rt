@@ -1,7 +1,7 @@
 //! The laws of stopping and connecting, each the contract of a function that does nothing.
 ghost use Rattle.driver_connect.specs.Drivers.{HasShortPlans, IsShortPlan, fixed_meaning};
 ghost use Rattle.driver_connect.specs.DriverTurns.{OrderLaw, TurnsLaw};
-ghost use Rattle.driver_connect.specs.Laws.{GoneLaw, MakersItemLaw, NothingCarriedOutLaw, ReadyLaw, RoundsLaw, StaysLaw, StopSetLaw, VersionsLaw};
+ghost use Rattle.driver_connect.specs.Laws.{GoneLaw, MakersItemLaw, NothingCarriedOutLaw, RoundsLaw, StaysLaw, StopSetLaw, VersionsLaw};
 ghost use Rattle.driver_connect.specs.StopOrder.{StopOrderLaw};
 ghost use Rattle.driver_connect.specs.StartOrder.{StartOrderLaw};
 ghost use Rattle.driver_connect.specs.Turns.{StartsLaw, TriedOnceLaw};
@@ -60,12 +60,6 @@ pub fn tried_once_law()
 /// that is left is supported at the end.
 pub fn starts_law()
     ensures { StartsLaw }
-{}
-
-/// A connect carries out a start on its handle exactly where one of the drivers is supported there as
-/// the lists are, with a plan that can be carried out.
-pub fn ready_law()
-    ensures { ReadyLaw }
 {}
 
 /// A connect that carries out no start on its handle changes nothing.

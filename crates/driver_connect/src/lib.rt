@@ -10,11 +10,9 @@ mod driver_turns;
 mod laws;
 mod made;
 mod numbers;
-mod pair_set;
 mod pairs;
 mod progress;
 mod protocols;
-mod readiness;
 mod reconnecting;
 mod starting;
 mod stop_order;
@@ -27,13 +25,12 @@ pub use connecting::{MAX_NAMED, connect};
 pub use driver::Driver;
 pub use driver_turns::{DriverTurns, begin_turns};
 pub use laws::{
-    gone_law, makers_item_law, nothing_carried_out_law, order_law, ready_law, rounds_law,
-    short_plan_law, start_order_law, starts_law, stays_law, stop_order_law, stop_set_law,
-    table_plans_law, tried_once_law, turns_law, versions_law,
+    gone_law, makers_item_law, nothing_carried_out_law, order_law, rounds_law, short_plan_law,
+    start_order_law, starts_law, stays_law, stop_order_law, stop_set_law, table_plans_law,
+    tried_once_law, turns_law, versions_law,
 };
-pub use readiness::is_ready_after;
 pub use reconnecting::replace_and_connect;
 pub use stop_order::{children_of, managers_to_stop, pairs_to_stop};
-pub use stopping::{Opener, StopPlan, disconnect, stop};
+pub use stopping::{StopPlan, disconnect, stop};
 pub use table::TableDriver;
 pub use view::{MAX_CHILDREN, MAX_GUIDS, MAX_PAIRS, ProtocolView, StartPlan, View};

@@ -1,7 +1,6 @@
 //! Ascending numbers.
 ghost use Rattle.std.specs.Prelude.{◌≡◌, ◌<◌, ◌≤◌, not, nat_lt, length};
 ghost use Rattle.guid_handles.specs.Sorting.{Ascending, place};
-ghost use Rattle.driver_connect.specs.Stopping.{is_one_of};
 
 /// How many of some ascending numbers are not above one.
 pub(crate) fn count_up_to(numbers: &[u64], last: u64) -> usize
@@ -14,13 +13,4 @@ pub(crate) fn count_up_to(numbers: &[u64], last: u64) -> usize
             ensures { result ≡ not (nat_lt last n.now) }
         { *n <= last },
     )
-}
-
-/// Whether a number is among some ascending ones.
-pub(crate) fn is_among(numbers: &[u64], number: u64) -> bool
-    requires { Ascending (λ a b. a < b) numbers.now }
-    ensures { result ≡ is_one_of numbers.now number }
-{
-    let count = count_up_to(numbers, number);
-    count > 0 && number == numbers[count - 1]
 }

@@ -1,35 +1,36 @@
 //! Pairs of a controller and the agent that manages it, and the stop set of some.
 ghost use Rattle.std.specs.Prelude.{◌≡◌, ◌≤◌, [], List, IfOk, OnOk, length, drop};
-ghost use Rattle.open_agents.specs.declared.items.Manager.{Manager};
+ghost use Rattle.guid_handles.specs.declared.records.Pair.{Pair};
 ghost use Rattle.driver_connect.specs.Stopping as spec;
 
 use crate::made::made_by;
-use crate::pair_set::PairSet;
-use guid_handles::{Handles, Maker};
-use open_agents::{Manager, Opens};
+use guid_handles::{Handles, Pair};
+use open_agents::Opens;
 use std::alloc::{AllocError, Allocator};
 
-/// The pair that a handle's maker is.
-pub(crate) fn maker_pair(maker: Maker) -> Manager
-    ensures { result ≡ spec.maker_pair maker }
-{
-    let Maker { controller, agent } = maker;
-    Manager { controller, agent }
-}
-
 /// Whether a pair is among some.
-pub(crate) fn has_pair(pairs: &[Manager], pair: Manager) -> bool
+pub(crate) fn has_pair(pairs: &[Pair], pair: Pair) -> bool
     ensures { result ≡ spec.has_pair pairs.now pair }
 {
     pairs.iter().any(|p| pair.controller == p.controller && pair.agent == p.agent)
 }
 
+/// Adds a pair to a set, unless it is there.
+fn add_pair<A: Allocator>(set: &mut Vec<Pair, A>, pair: Pair) -> Result<(), AllocError>
+    ensures { OnOk result (set.new.items ≡ spec.with_pair set.old.items pair) }
+{
+    if !has_pair(set.as_slice(), pair) {
+        set.push(pair)?;
+    }
+    Ok(())
+}
+
 /// Adds each of some pairs to a set, unless it is there.
-fn add_pairs<A: Allocator + Copy>(set: &mut PairSet<A>, more: &[Manager]) -> Result<(), AllocError>
-    ensures { OnOk result (set.new ≡ spec.with_pairs set.old more.now) }
+fn add_pairs<A: Allocator>(set: &mut Vec<Pair, A>, more: &[Pair]) -> Result<(), AllocError>
+    ensures { OnOk result (set.new.items ≡ spec.with_pairs set.old.items more.now) }
 {
     for pair in more {
-        set.add(*pair)?;
+        add_pair(set, *pair)?;
     }
     Ok(())
 }
@@ -37,13 +38,13 @@ fn add_pairs<A: Allocator + Copy>(set: &mut PairSet<A>, more: &[Manager]) -> Res
 /// Whether a live handle's maker is among some pairs.
 pub(crate) fn is_made_by<A: Allocator + Copy>(
     handles: &Handles<A>,
-    pairs: &PairSet<A>,
+    pairs: &[Pair],
     handle: u64,
 ) -> bool
     ensures { result ≡ spec.is_made_by handles.now pairs.now handle }
 {
     match handles.maker_of(handle) {
-        Some(maker) => pairs.has(maker_pair(maker)),
+        Some(maker) => has_pair(pairs, maker),
         None => false,
     }
 }
@@ -53,8 +54,8 @@ fn managers_of_made<A: Allocator + Copy>(
     alloc: A,
     handles: &Handles<A>,
     opens: &Opens<A>,
-    pairs: &[Manager],
-) -> Result<Vec<Manager, A>, AllocError>
+    pairs: &[Pair],
+) -> Result<Vec<Pair, A>, AllocError>
     ensures { IfOk result (λ v. v.items ≡ spec.managers_of_made handles.now opens.now pairs.now) }
 {
     let made = made_by(alloc, handles, pairs)?;
@@ -64,15 +65,15 @@ fn managers_of_made<A: Allocator + Copy>(
 /// Adds the managers of the handles that the pairs of a set from a place on made.
 fn add_managers<A: Allocator + Copy>(
     alloc: A,
-    set: &mut PairSet<A>,
+    set: &mut Vec<Pair, A>,
     handles: &Handles<A>,
     opens: &Opens<A>,
     from: usize,
 ) -> Result<(), AllocError>
-    requires { from ≤ length set.old }
+    requires { from ≤ length set.old.items }
     ensures { OnOk result
-        (set.new ≡ spec.with_pairs set.old
-        (spec.managers_of_made handles.now opens.now (drop from set.old))) }
+        (set.new.items ≡ spec.with_pairs set.old.items
+        (spec.managers_of_made handles.now opens.now (drop from set.old.items))) }
 {
     let managers = managers_of_made(alloc, handles, opens, &set.as_slice()[from..])?;
     add_pairs(set, managers.as_slice())
@@ -82,12 +83,13 @@ fn add_managers<A: Allocator + Copy>(
 /// it added: the managers of what older pairs made are there.
 fn add_rounds<A: Allocator + Copy>(
     alloc: A,
-    set: &mut PairSet<A>,
+    set: &mut Vec<Pair, A>,
     handles: &Handles<A>,
     opens: &Opens<A>,
     count: usize,
 ) -> Result<(), AllocError>
-    ensures { OnOk result (set.new ≡ spec.rounds count handles.now opens.now set.old) }
+    ensures { OnOk result
+        (set.new.items ≡ spec.rounds count handles.now opens.now set.old.items) }
 {
     let mut asked = 0;
     for k in 0..count {
@@ -102,26 +104,26 @@ fn add_rounds<A: Allocator + Copy>(
 }
 
 /// The set of some pairs.
-pub(crate) fn set_of_each<A: Allocator + Copy>(
+pub(crate) fn set_of_each<A: Allocator>(
     alloc: A,
-    pairs: &[Manager],
-) -> Result<PairSet<A>, AllocError>
-    ensures { IfOk result (λ set. set ≡ spec.with_pairs [] pairs.now) }
+    pairs: &[Pair],
+) -> Result<Vec<Pair, A>, AllocError>
+    ensures { IfOk result (λ set. set.items ≡ spec.with_pairs [] pairs.now) }
 {
-    let mut set = PairSet::new(alloc);
+    let mut set = Vec::new(alloc);
     add_pairs(&mut set, pairs)?;
     Ok(set)
 }
 
 /// The set of some pairs. A single one stays in its memory.
-pub(crate) fn set_of<A: Allocator + Copy>(
+pub(crate) fn set_of<A: Allocator>(
     alloc: A,
-    pairs: Vec<Manager, A>,
-) -> Result<PairSet<A>, AllocError>
-    ensures { IfOk result (λ set. set ≡ spec.with_pairs [] pairs.items) }
+    pairs: Vec<Pair, A>,
+) -> Result<Vec<Pair, A>, AllocError>
+    ensures { IfOk result (λ set. set.items ≡ spec.with_pairs [] pairs.items) }
 {
     if pairs.len() <= 1 {
-        return Ok(PairSet::of_at_most_one(alloc, pairs));
+        return Ok(pairs);
     }
     set_of_each(alloc, pairs.as_slice())
 }
@@ -131,10 +133,10 @@ pub(crate) fn stop_set<A: Allocator + Copy>(
     alloc: A,
     handles: &Handles<A>,
     opens: &Opens<A>,
-    mut set: PairSet<A>,
-) -> Result<PairSet<A>, AllocError>
-    ensures { IfOk result (λ whole. (pairs : List Manager) → set ≡ spec.with_pairs [] pairs
-        → whole ≡ spec.stop_set handles.now opens.now pairs) }
+    mut set: Vec<Pair, A>,
+) -> Result<Vec<Pair, A>, AllocError>
+    ensures { IfOk result (λ whole. (pairs : List Pair) → set.items ≡ spec.with_pairs [] pairs
+        → whole.items ≡ spec.stop_set handles.now opens.now pairs) }
 {
     // There are at most this many items, and further rounds add nothing.
     let most = handles.all().len() + opens.slots().len();

@@ -2,8 +2,6 @@
 ghost use Rattle.std.specs.Prelude.{◌≡◌, ◌+◌, ◌≤◌, ◌++◌, true, false, map, length, OnOk};
 ghost use Rattle.std.specs.List.{list_all, AllByRecursion};
 ghost use Rattle.open_agents.specs.OpenRule.{has_holder};
-ghost use Rattle.guid_handles.specs.HandleTables.{HandleTable};
-ghost use Rattle.guid_handles.specs.HandleChanges.{max_in_table};
 ghost use Rattle.driver_connect.specs.Drivers.{is_free};
 ghost use Rattle.driver_connect.specs.Starting as spec;
 ghost use Rattle.driver_connect.specs.GoingOn.{HasMade, HasOpened};
@@ -12,7 +10,7 @@ ghost use Rattle.driver_connect.specs.Room.{HasRoom, Grows};
 use crate::table::is_free;
 use crate::view::{MAX_PAIRS, ProtocolView, StartPlan};
 use arrayvec::ArrayVec;
-use guid_handles::{Handles, MAX_HANDLES, Maker, has_guid_twice};
+use guid_handles::{Handles, MAX_HANDLES, Pair, has_guid_twice};
 use open_agents::{BY_DRIVER, Opens};
 use protocol_notify::Notify;
 use std::alloc::{AllocError, Allocator};
@@ -63,18 +61,19 @@ fn are_free(protocols: &[ProtocolView], guids: &[Uuid]) -> bool
     guids.iter().all(|guid| is_free(protocols, *guid))
 }
 
-/// Whether a plan can be carried out on a handle with some protocols, where there are a number of
-/// handles.
-pub(crate) fn can_start(count: usize, protocols: &[ProtocolView], plan: &StartPlan) -> bool
-    requires { count ≤ max_in_table }
-    ensures { (t : HandleTable) → count ≡ length t.handles
-        → result ≡ spec.can_start t protocols.now plan.now }
+/// Whether a plan can be carried out on a handle with some protocols.
+pub(crate) fn can_start<A: Allocator + Copy>(
+    handles: &Handles<A>,
+    protocols: &[ProtocolView],
+    plan: &StartPlan,
+) -> bool
+    ensures { result ≡ spec.can_start handles.now protocols.now plan.now }
 {
     !plan.opens.is_empty()
         && !has_twice(plan.opens.as_slice())
         && are_free(protocols, plan.opens.as_slice())
         && are_children(plan.children.as_slice())
-        && count + plan.children.len() <= MAX_HANDLES
+        && handles.all().len() + plan.children.len() <= MAX_HANDLES
 }
 
 /// Opens GUIDs of a controller for a driver, in order.
@@ -99,7 +98,7 @@ pub(crate) fn open_for_driver<A: Allocator + Copy>(
 /// Makes a child of a maker.
 fn make_child<A: Allocator + Copy>(
     handles: &mut Handles<A>,
-    maker: Maker,
+    maker: Pair,
     child: &ArrayVec<(Uuid, u64), MAX_PAIRS>,
 ) -> Result<(), AllocError>
     requires room { HasRoom handles.old }
@@ -120,7 +119,7 @@ fn make_child<A: Allocator + Copy>(
 /// Makes children of a maker, in order.
 pub(crate) fn make_children<A: Allocator + Copy>(
     handles: &mut Handles<A>,
-    maker: Maker,
+    maker: Pair,
     children: &[ArrayVec<(Uuid, u64), MAX_PAIRS>],
 ) -> Result<(), AllocError>
     requires room { HasRoom handles.old }

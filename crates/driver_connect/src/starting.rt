@@ -1,22 +1,18 @@
 //! Starting drivers on one handle.
-ghost use Rattle.std.specs.Prelude.{◌≡◌, ◌≤◌, ◌++◌, true, false, length, map, take, IfOk, OnOk};
-ghost use Rattle.guid_handles.specs.HandleChanges.{max_in_table};
-ghost use Rattle.guid_handles.specs.TableSteps.{AreOlder, taken_back_to};
-ghost use Rattle.driver_connect.specs.Beside.{MayLeave, first_draft, reached};
-ghost use Rattle.driver_connect.specs.BesideSteps.{Passes, PassesAll, StartsOn, TakesTurn};
+ghost use Rattle.std.specs.Prelude.{◌≡◌, ◌≤◌, ◌++◌, true, false, take, IfOk, OnOk};
+ghost use Rattle.driver_connect.specs.Connecting.{first_progress};
 ghost use Rattle.driver_connect.specs.GoingOn.{GoesOn};
 ghost use Rattle.driver_connect.specs.Room.{HasRoom, Grows};
 ghost use Rattle.driver_connect.specs.Starting as spec;
 ghost use Rattle.driver_connect.specs.Starting.{all_passes, pass, protocols_at, site_of};
 
 use crate::agents::{Agent, plan_at, supports_at};
-use crate::candidates::{agents_for, leave_out};
+use crate::candidates::agents_for;
 use crate::driver::Driver;
-use crate::numbers::is_among;
 use crate::progress::{can_start, make_children, open_for_driver, signal_children};
 use crate::protocols::protocols_on;
 use crate::view::{ProtocolView, StartPlan, View};
-use guid_handles::{Handles, Maker};
+use guid_handles::{Handles, Pair};
 use open_agents::Opens;
 use protocol_notify::Notify;
 use std::alloc::{AllocError, Allocator};
@@ -33,27 +29,18 @@ pub struct Start {
 
 /// How far a connect has come: the handles, the open items, and the events signaled.
 #[derive(Drop)]
-pub(crate) struct Connecting<'a, A: Allocator> {
+pub(crate) struct Connecting<A: Allocator> {
     pub(crate) handles: Handles<A>,
     pub(crate) opens: Opens<A>,
     pub(crate) events: Vec<u64, A>,
-    /// Handles that go once the connect is done. Drivers are started as if they had gone.
-    leaving: &'a [u64],
 }
 
-impl<'a, A: Allocator> Model for Connecting<'a, A> {
-    ghost use Rattle.driver_connect.specs.Beside.{Draft, MayLeave};
+impl<A: Allocator> Model for Connecting<A> {
+    ghost use Rattle.driver_connect.specs.Starting.{Progress};
 
-    ghost Value = { Draft };
+    ghost Value = { Progress };
 
-    ghost view = { λ c. record {
-      handles = c.handles;
-      opens = c.opens;
-      events = c.events.items;
-      leaving = c.leaving.now;
-    } };
-
-    ghost invariant = { λ c. MayLeave c.leaving.now c.handles };
+    ghost view = { λ c. record { handles = c.handles; opens = c.opens; events = c.events.items } };
 }
 
 /// What a pass over drivers has done: the starts made, and the drivers that are left.
@@ -63,108 +50,43 @@ pub(crate) struct Pass<A: Allocator> {
     left: Vec<Agent, A>,
 }
 
-impl<'a, A: Allocator + Copy> Connecting<'a, A> {
-    /// The handles and the open items themselves, to be changed beside handles that go once this is done.
-    /// Until they are put in place there are none. This takes no memory.
-    pub(crate) fn take(
-        alloc: A,
-        handles: &mut Handles<A>,
-        opens: &mut Opens<A>,
-        leaving: &'a [u64],
-    ) -> Connecting<'a, A>
-        requires { MayLeave leaving.now handles.old }
-        ensures { result ≡ first_draft leaving.now handles.old opens.old }
+impl<A: Allocator + Copy> Connecting<A> {
+    /// Moves the handles and the open items here, to be changed. Until they are put in place there are none.
+    /// This does not allocate.
+    pub(crate) fn take(alloc: A, handles: &mut Handles<A>, opens: &mut Opens<A>) -> Connecting<A>
+        ensures { result ≡ first_progress handles.old opens.old }
     {
         Connecting {
             handles: mem::replace(handles, Handles::new(alloc)),
             opens: mem::replace(opens, Opens::new(alloc)),
             events: Vec::new(alloc),
-            leaving,
         }
-    }
-
-    /// Takes back what was done since this number and this stamp were the last that were given and there
-    /// were this number of items, and puts the handles and open items back in place. This takes no
-    /// memory.
-    pub(crate) fn take_back(
-        self,
-        handles: &mut Handles<A>,
-        opens: &mut Opens<A>,
-        number: u64,
-        stamp: u64,
-        items: usize,
-    )
-        requires stamp { stamp ≤ self.handles.last_stamp }
-        requires older { AreOlder number stamp self.handles }
-        ensures handles { handles.new ≡ taken_back_to number stamp self.entry.handles }
-        ensures opens { opens.new ≡ take items self.entry.opens }
-    {
-        let Connecting {
-            handles: new_handles,
-            opens: new_opens,
-            events: _,
-            leaving: _,
-        } = self;
-        *handles = new_handles;
-        *opens = new_opens;
-        handles.take_back_to(number, stamp);
-        opens.truncate(items);
     }
 
     /// Puts the changed handles and open items into the place of the others, and returns the events.
     pub(crate) fn put_in_place(self, handles: &mut Handles<A>, opens: &mut Opens<A>) -> Vec<u64, A>
-        ensures handles { handles.new ≡ self.entry.handles }
-        ensures opens { opens.new ≡ self.entry.opens }
-        ensures events { result.items ≡ self.entry.events }
+        ensures handles { handles.new ≡ self.handles }
+        ensures opens { opens.new ≡ self.opens }
+        ensures events { result.items ≡ self.events }
     {
         let Connecting {
             handles: new_handles,
             opens: new_opens,
             events,
-            leaving: _,
         } = self;
         *handles = new_handles;
         *opens = new_opens;
         events
     }
 
-    /// How many handles there are that stay.
-    fn count(&self) -> usize
-        ensures count { result ≡ length (reached self.now).handles.handles }
-        ensures limit { result ≤ max_in_table }
-    {
-        self.handles.all().len() - self.leaving.len()
-    }
-
-    /// The protocols on a handle. One that goes has none any more.
+    /// The protocols on a handle.
     fn protocols_on(&self, alloc: A, handle: u64) -> Result<Vec<ProtocolView, A>, AllocError>
-        ensures { IfOk result (λ v. v.items ≡ protocols_at (reached self.now) handle) }
+        ensures { IfOk result (λ v. v.items ≡ protocols_at self.now handle) }
     {
-        if is_among(self.leaving, handle) {
-            return Ok(Vec::new(alloc));
-        }
         protocols_on(alloc, &self.handles, &self.opens, handle)
     }
 
-    /// The drivers to be tried on a handle: those named, and then all others by version. None is on a handle
-    /// that goes.
-    fn agents<D: Driver>(
-        &self,
-        alloc: A,
-        drivers: &[D],
-        named: &[u64],
-    ) -> Result<Vec<Agent, A>, AllocError>
-        ensures { IfOk result
-            (λ v. v.items
-            ≡ spec.agents_for (map D.meaning drivers.now) (reached self.now).handles named.now) }
-    {
-        let mut agents = agents_for(alloc, drivers, &self.handles, named)?;
-        leave_out(&mut agents, self.leaving);
-        Ok(agents)
-    }
-
-    /// Carries out a plan that can be. On an `Err` memory ran out, or the table has no places for its children
-    /// beside handles that go.
+    /// Carries out a plan that can be.
     fn carry_out(
         &mut self,
         notify: &Notify<A>,
@@ -173,21 +95,19 @@ impl<'a, A: Allocator + Copy> Connecting<'a, A> {
         plan: &StartPlan,
     ) -> Result<(), AllocError>
         requires room { HasRoom self.old.handles }
-        requires can { spec.can_start (reached self.old).handles
-            (protocols_at (reached self.old) controller) plan.now ≡ true }
+        requires can { spec.can_start self.old.handles (protocols_at self.old controller) plan.now
+            ≡ true }
         ensures progress { OnOk result
-            (reached self.new
-            ≡ spec.carried_out notify.now controller agent plan.now (reached self.old)) }
+            (self.new ≡ spec.carried_out notify.now controller agent plan.now self.old) }
         ensures grows { OnOk result (Grows self.old.handles self.new.handles) }
         ensures goes_on { GoesOn self.old self.new }
     {
-        if self.handles.all().len() + plan.children.len() > self.handles.places() {
-            return Err(AllocError);
-        }
+        // The contract of this look-up says for how many handles there are places at least.
+        let _numbers = self.handles.all();
         open_for_driver(&mut self.opens, controller, agent, plan.opens.as_slice())?;
         make_children(
             &mut self.handles,
-            Maker { controller, agent },
+            Pair { controller, agent },
             plan.children.as_slice(),
         )?;
         signal_children(&mut self.events, notify, plan.children.as_slice())
@@ -197,7 +117,7 @@ impl<'a, A: Allocator + Copy> Connecting<'a, A> {
 /// Starts an agent's driver if it is supported on the controller, whose protocols are given, and
 /// returns whether the start was carried out. It returns none where the driver is not supported.
 fn take_turn<D: Driver, A: Allocator + Copy>(
-    connecting: &mut Connecting<'_, A>,
+    connecting: &mut Connecting<A>,
     drivers: &[D],
     notify: &Notify<A>,
     controller: u64,
@@ -205,14 +125,15 @@ fn take_turn<D: Driver, A: Allocator + Copy>(
     protocols: &[ProtocolView],
 ) -> Result<Option<bool>, AllocError>
     requires room { HasRoom connecting.old.handles }
-    requires protocols { protocols.now ≡ protocols_at (reached connecting.old) controller }
+    requires protocols { protocols.now ≡ protocols_at connecting.old controller }
     ensures turn { IfOk result
         (λ t. t
-        ≡ spec.turn (site_of D.meaning drivers.now notify.now controller) (reached connecting.old)
-        agent.now) }
+        ≡ spec.turn
+        (site_of D.meaning drivers.now notify.now controller) connecting.old agent.now) }
     ensures progress { OnOk result
-        (TakesTurn (site_of D.meaning drivers.now notify.now controller) agent.now
-        connecting.old connecting.new) }
+        (connecting.new
+        ≡ spec.after_turn (site_of D.meaning drivers.now notify.now controller) connecting.old
+        agent.now) }
     ensures stays { IfOk result (λ t. spec.is_change t ≡ false → connecting.new ≡ connecting.old) }
     ensures grows { OnOk result (Grows connecting.old.handles connecting.new.handles) }
     ensures goes_on { GoesOn connecting.old connecting.new }
@@ -226,7 +147,7 @@ fn take_turn<D: Driver, A: Allocator + Copy>(
         return Ok(None);
     }
     let plan = plan_at(drivers, agent.driver, &view);
-    if !can_start(connecting.count(), protocols, &plan) {
+    if !can_start(&connecting.handles, protocols, &plan) {
         return Ok(Some(false));
     }
     connecting.carry_out(notify, controller, agent.handle, &plan)?;
@@ -236,14 +157,14 @@ fn take_turn<D: Driver, A: Allocator + Copy>(
 /// The protocols on a controller after a turn, where those before it are given.
 fn refreshed<A: Allocator + Copy>(
     alloc: A,
-    connecting: &Connecting<'_, A>,
+    connecting: &Connecting<A>,
     controller: u64,
     protocols: Vec<ProtocolView, A>,
     turn: Option<bool>,
 ) -> Result<Vec<ProtocolView, A>, AllocError>
     requires { spec.is_change turn ≡ false
-        → protocols.items ≡ protocols_at (reached connecting.now) controller }
-    ensures { IfOk result (λ v. v.items ≡ protocols_at (reached connecting.now) controller) }
+        → protocols.items ≡ protocols_at connecting.now controller }
+    ensures { IfOk result (λ v. v.items ≡ protocols_at connecting.now controller) }
 {
     match turn {
         Some(true) => connecting.protocols_on(alloc, controller),
@@ -273,7 +194,7 @@ impl<A: Allocator + Copy> Pass<A> {
 /// Starts each of some drivers in turn that is supported on a controller.
 fn run_pass<D: Driver, A: Allocator + Copy>(
     alloc: A,
-    connecting: &mut Connecting<'_, A>,
+    connecting: &mut Connecting<A>,
     drivers: &[D],
     notify: &Notify<A>,
     controller: u64,
@@ -284,15 +205,17 @@ fn run_pass<D: Driver, A: Allocator + Copy>(
         (λ p. p.starts.items
         ≡ (pass
         (site_of D.meaning drivers.now notify.now controller) agents.now
-        (reached connecting.old)).starts) }
+        connecting.old).starts) }
     ensures left { IfOk result
         (λ p. p.left.items
         ≡ (pass
         (site_of D.meaning drivers.now notify.now controller) agents.now
-        (reached connecting.old)).left) }
+        connecting.old).left) }
     ensures progress { OnOk result
-        (Passes (site_of D.meaning drivers.now notify.now controller) agents.now
-        connecting.old connecting.new) }
+        (connecting.new
+        ≡ (pass
+        (site_of D.meaning drivers.now notify.now controller) agents.now
+        connecting.old).progress) }
     ensures grows { OnOk result (Grows connecting.old.handles connecting.new.handles) }
     ensures goes_on { GoesOn connecting.old connecting.new }
 {
@@ -322,7 +245,7 @@ fn run_pass<D: Driver, A: Allocator + Copy>(
 #[inline(never)]
 pub(crate) fn run_passes<D: Driver, A: Allocator + Copy>(
     alloc: A,
-    connecting: &mut Connecting<'_, A>,
+    connecting: &mut Connecting<A>,
     drivers: &[D],
     notify: &Notify<A>,
     controller: u64,
@@ -333,14 +256,16 @@ pub(crate) fn run_passes<D: Driver, A: Allocator + Copy>(
         (λ v. v.items
         ≡ (spec.starts_on
         (site_of D.meaning drivers.now notify.now controller) named.now
-        (reached connecting.old)).starts) }
+        connecting.old).starts) }
     ensures progress { OnOk result
-        (StartsOn (site_of D.meaning drivers.now notify.now controller) named.now
-        connecting.old connecting.new) }
+        (connecting.new
+        ≡ (spec.starts_on
+        (site_of D.meaning drivers.now notify.now controller) named.now
+        connecting.old).progress) }
     ensures grows { OnOk result (Grows connecting.old.handles connecting.new.handles) }
     ensures goes_on { GoesOn connecting.old connecting.new }
 {
-    let agents = connecting.agents(alloc, drivers, named)?;
+    let agents = agents_for(alloc, drivers, &connecting.handles, named)?;
     run_passes_over(alloc, connecting, drivers, notify, controller, agents)
 }
 
@@ -348,7 +273,7 @@ pub(crate) fn run_passes<D: Driver, A: Allocator + Copy>(
 /// none.
 fn run_passes_over<D: Driver, A: Allocator + Copy>(
     alloc: A,
-    connecting: &mut Connecting<'_, A>,
+    connecting: &mut Connecting<A>,
     drivers: &[D],
     notify: &Notify<A>,
     controller: u64,
@@ -359,10 +284,12 @@ fn run_passes_over<D: Driver, A: Allocator + Copy>(
         (λ v. v.items
         ≡ (all_passes
         (site_of D.meaning drivers.now notify.now controller) agents.items
-        (reached connecting.old)).starts) }
+        connecting.old).starts) }
     ensures progress { OnOk result
-        (PassesAll (site_of D.meaning drivers.now notify.now controller) agents.items
-        connecting.old connecting.new) }
+        (connecting.new
+        ≡ (all_passes
+        (site_of D.meaning drivers.now notify.now controller) agents.items
+        connecting.old).progress) }
     ensures grows { OnOk result (Grows connecting.old.handles connecting.new.handles) }
     ensures goes_on { GoesOn connecting.old connecting.new }
 {

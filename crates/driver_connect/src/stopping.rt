@@ -1,36 +1,24 @@
 //! Stopping drivers, with the handles that they made.
-ghost use Rattle.std.specs.Prelude.{◌≡◌, ◌≤◌, ◌==◌, ◌||◌, not, [], List, false, length, IfOk, OnErr, map};
+ghost use Rattle.std.specs.Prelude.{◌≡◌, ◌==◌, ◌||◌, not, [], List, false, IfOk, OnErr, map};
 ghost use Rattle.std.specs.List.{list_all, list_any, filter};
-ghost use Rattle.guid_handles.specs.HandleChanges.{max_in_table};
-ghost use Rattle.guid_handles.specs.HandleTables.{is_live};
-ghost use Rattle.open_agents.specs.declared.items.Manager.{Manager};
-ghost use Rattle.open_agents.specs.Blocks.{items_at};
+ghost use Rattle.guid_handles.specs.declared.records.Pair.{Pair};
+ghost use Rattle.open_agents.specs.Blocks.{items_near};
 ghost use Rattle.open_agents.specs.OpenItems.{without_items};
 ghost use Rattle.driver_connect.specs.Stopping as spec;
 
 use crate::agents::{driver_binding, driver_of, may_stop_at};
 use crate::driver::Driver;
 use crate::made::made_by;
-use crate::numbers::is_among;
-use crate::pair_set::PairSet;
-use crate::pairs::{is_made_by, set_of, set_of_each, stop_set};
+use crate::pairs::{has_pair, is_made_by, set_of, set_of_each, stop_set};
 use crate::protocols::protocols_on;
 use crate::view::View;
-use guid_handles::Handles;
+use guid_handles::{Handles, Pair};
 use open_agents::{
-    BY_CHILD_CONTROLLER, BY_HANDLE_PROTOCOL, GET_PROTOCOL, Manager, Near, OpenRecord, Opens,
-    TEST_PROTOCOL, item_at,
+    BY_CHILD_CONTROLLER, BY_HANDLE_PROTOCOL, GET_PROTOCOL, Near, OpenRecord, Opens, TEST_PROTOCOL,
 };
 use page_ranges::Status;
 use std::alloc::{AllocError, Allocator, Global};
 use std::marker::Model;
-
-/// The agent and the controller of a call of OpenProtocol.
-#[derive(Clone, Copy)]
-pub struct Opener {
-    pub agent: u64,
-    pub controller: u64,
-}
 
 /// Whether the driver of a pair lets itself be stopped.
 fn may_stop<D: Driver, A: Allocator + Copy>(
@@ -38,12 +26,12 @@ fn may_stop<D: Driver, A: Allocator + Copy>(
     drivers: &[D],
     handles: &Handles<A>,
     opens: &Opens<A>,
-    pair: Manager,
+    pair: Pair,
 ) -> Result<bool, AllocError>
     ensures { IfOk result
         (λ b. b ≡ spec.may_stop (map D.meaning drivers.now) handles.now opens.now pair) }
 {
-    let Manager { controller, agent } = pair;
+    let Pair { controller, agent } = pair;
     let Some(place) = driver_of(drivers, handles, agent) else {
         return Ok(false);
     };
@@ -62,7 +50,7 @@ fn may_all_stop<D: Driver, A: Allocator + Copy>(
     drivers: &[D],
     handles: &Handles<A>,
     opens: &Opens<A>,
-    pairs: &[Manager],
+    pairs: &[Pair],
 ) -> Result<bool, AllocError>
     ensures { IfOk result
         (λ b. b
@@ -77,17 +65,13 @@ fn may_all_stop<D: Driver, A: Allocator + Copy>(
 }
 
 /// Whether an item on a handle that goes is no obstacle to a stop.
-fn is_no_obstacle<A: Allocator + Copy>(
-    handles: &Handles<A>,
-    set: &PairSet<A>,
-    o: &OpenRecord,
-) -> bool
+fn is_no_obstacle<A: Allocator + Copy>(handles: &Handles<A>, set: &[Pair], o: &OpenRecord) -> bool
     ensures { result ≡ spec.is_no_obstacle handles.now set.now o.now }
 {
     matches!(
         o.attributes,
         BY_HANDLE_PROTOCOL | GET_PROTOCOL | TEST_PROTOCOL
-    ) || set.has(o.manager())
+    ) || has_pair(set, o.manager())
         || (o.attributes == BY_CHILD_CONTROLLER && is_made_by(handles, set, o.controller))
 }
 
@@ -95,29 +79,23 @@ fn is_no_obstacle<A: Allocator + Copy>(
 fn is_unobstructed_on<A: Allocator + Copy>(
     handles: &Handles<A>,
     near: Near<'_>,
-    set: &PairSet<A>,
+    set: &[Pair],
     handle: u64,
 ) -> bool
     ensures { result
         ≡ list_all
         (λ o. not (o.handle == handle) || spec.is_no_obstacle handles.now set.now o)
-        (items_at near.entry.slots.now near.entry.places.now) }
+        (items_near near.entry) }
 {
-    for place in near.places {
-        if let Some(o) = item_at(near.slots, *place) {
-            if o.handle == handle && !is_no_obstacle(handles, set, o) {
-                return false;
-            }
-        }
-    }
-    true
+    near.items()
+        .all(|o| o.handle != handle || is_no_obstacle(handles, set, o))
 }
 
 /// Whether the items on the handles that go, which the pairs of the set made, are no obstacles.
 fn is_unobstructed<A: Allocator + Copy>(
     handles: &Handles<A>,
     opens: &Opens<A>,
-    set: &PairSet<A>,
+    set: &[Pair],
     made: &[u64],
 ) -> bool
     requires { made.now ≡ spec.made_by handles.now set.now }
@@ -132,7 +110,7 @@ fn is_unobstructed<A: Allocator + Copy>(
 }
 
 /// Whether an agent is that of one of some pairs.
-fn has_agent(pairs: &[Manager], agent: u64) -> bool
+fn has_agent(pairs: &[Pair], agent: u64) -> bool
     ensures { result ≡ spec.has_agent pairs.now agent }
 {
     pairs.iter().any(|p| p.agent == agent)
@@ -141,14 +119,14 @@ fn has_agent(pairs: &[Manager], agent: u64) -> bool
 /// Whether the agent and the controller of a call of OpenProtocol stay.
 fn spares_opener<A: Allocator + Copy>(
     handles: &Handles<A>,
-    set: &PairSet<A>,
-    opener: Option<Opener>,
+    set: &[Pair],
+    opener: Option<Pair>,
 ) -> bool
     ensures { result ≡ spec.spares_opener handles.now set.now opener }
 {
     match opener {
         Some(opener) => {
-            !has_agent(set.as_slice(), opener.agent)
+            !has_agent(set, opener.agent)
                 && !is_made_by(handles, set, opener.agent)
                 && !is_made_by(handles, set, opener.controller)
         }
@@ -162,19 +140,19 @@ fn can_be_stopped<D: Driver, A: Allocator + Copy>(
     drivers: &[D],
     handles: &Handles<A>,
     opens: &Opens<A>,
-    set: &PairSet<A>,
+    set: &[Pair],
     handle: u64,
-    opener: Option<Opener>,
+    opener: Option<Pair>,
 ) -> Result<bool, AllocError>
     ensures { IfOk result
         (λ b. b
         ≡ spec.can_be_stopped
         (map D.meaning drivers.now) handles.now opens.now set.now handle opener) }
 {
-    if !may_all_stop(alloc, drivers, handles, opens, set.as_slice())? {
+    if !may_all_stop(alloc, drivers, handles, opens, set)? {
         return Ok(false);
     }
-    let made = made_by(alloc, handles, set.as_slice())?;
+    let made = made_by(alloc, handles, set)?;
     Ok(
         is_unobstructed(handles, opens, set, made.as_slice())
             && !is_made_by(handles, set, handle)
@@ -184,7 +162,7 @@ fn can_be_stopped<D: Driver, A: Allocator + Copy>(
 
 /// Removes handles with their interfaces. Of ascending handles the last goes first, so that few are
 /// left behind one that goes.
-pub(crate) fn remove_handles<A: Allocator + Copy>(handles: &mut Handles<A>, leaving: &[u64])
+fn remove_handles<A: Allocator + Copy>(handles: &mut Handles<A>, leaving: &[u64])
     ensures { handles.new ≡ spec.without_handles leaving.now handles.old }
 {
     for at in (0..leaving.len()).rev() {
@@ -202,7 +180,7 @@ fn take_naming<A: Allocator + Copy>(opens: &mut Opens<A>, leaving: &[u64])
 }
 
 /// Removes the items of pairs.
-fn take_pairs<A: Allocator + Copy>(opens: &mut Opens<A>, pairs: &[Manager])
+fn take_pairs<A: Allocator + Copy>(opens: &mut Opens<A>, pairs: &[Pair])
     ensures { opens.new ≡ spec.without_pairs pairs.now opens.old }
 {
     for pair in pairs {
@@ -220,31 +198,20 @@ fn names_any(handles: &[u64], handle: u64, agent: u64, controller: u64) -> bool
         .any(|n| handle == *n || agent == *n || controller == *n)
 }
 
-/// How many of some numbers are those of live handles.
-fn count_live<A: Allocator + Copy>(handles: &Handles<A>, numbers: &[u64]) -> usize
-    ensures { result ≡ length (filter (is_live handles.now) numbers.now) }
-{
-    numbers.iter().filter(|n| handles.is_live(**n)).count()
-}
-
 /// What a stop removes, found on the lists as they are: the items of the pairs that it stops, and the
 /// handles that these pairs made, ascending.
 #[derive(Drop)]
 pub struct StopPlan<A: Allocator = Global> {
-    pairs: PairSet<A>,
+    pairs: Vec<Pair, A>,
     handles: Vec<u64, A>,
 }
 
 impl<A: Allocator> Model for StopPlan<A> {
-    ghost use Rattle.std.specs.Prelude.{◌<◌};
-    ghost use Rattle.guid_handles.specs.Sorting.{Ascending};
     ghost use Rattle.driver_connect.specs.Stopping.{PlannedStop};
 
     ghost Value = { PlannedStop };
 
-    ghost view = { λ p. record { pairs = p.pairs; handles = p.handles.items } };
-
-    ghost invariant = { λ p. Ascending (λ a b. a < b) p.handles.items };
+    ghost view = { λ p. record { pairs = p.pairs.items; handles = p.handles.items } };
 }
 
 impl<A: Allocator + Copy> StopPlan<A> {
@@ -253,7 +220,7 @@ impl<A: Allocator + Copy> StopPlan<A> {
         alloc: A,
         handles: &Handles<A>,
         opens: &Opens<A>,
-        pairs: &[Manager],
+        pairs: &[Pair],
     ) -> Result<StopPlan<A>, AllocError>
         ensures { IfOk result (λ plan. plan ≡ spec.planned_stop handles.now opens.now pairs.now) }
     {
@@ -266,7 +233,7 @@ impl<A: Allocator + Copy> StopPlan<A> {
         alloc: A,
         handles: &Handles<A>,
         opens: &Opens<A>,
-        pairs: Vec<Manager, A>,
+        pairs: Vec<Pair, A>,
     ) -> Result<StopPlan<A>, AllocError>
         ensures { IfOk result
             (λ plan. plan ≡ spec.planned_stop handles.now opens.now pairs.items) }
@@ -280,9 +247,10 @@ impl<A: Allocator + Copy> StopPlan<A> {
         alloc: A,
         handles: &Handles<A>,
         opens: &Opens<A>,
-        set: PairSet<A>,
+        set: Vec<Pair, A>,
     ) -> Result<StopPlan<A>, AllocError>
-        ensures { IfOk result (λ plan. (pairs : List Manager) → set ≡ spec.with_pairs [] pairs
+        ensures { IfOk result
+            (λ plan. (pairs : List Pair) → set.items ≡ spec.with_pairs [] pairs
             → plan ≡ spec.planned_stop handles.now opens.now pairs) }
     {
         let made = made_by(alloc, handles, set.as_slice())?;
@@ -298,33 +266,17 @@ impl<A: Allocator + Copy> StopPlan<A> {
     }
 
     /// The pairs that the stop stops.
-    pub(crate) fn pairs(&self) -> &[Manager]
+    pub(crate) fn pairs(&self) -> &[Pair]
         ensures { result.now ≡ self.now.pairs }
     {
         self.pairs.as_slice()
     }
 
     /// The handles that the stop removes.
-    pub(crate) fn handles(&self) -> &[u64]
+    pub fn handles(&self) -> &[u64]
         ensures { result.now ≡ self.now.handles }
     {
         self.handles.as_slice()
-    }
-
-    /// Whether the stop removes a handle.
-    pub(crate) fn takes_handle(&self, handle: u64) -> bool
-        ensures { result ≡ spec.is_one_of self.now.handles handle }
-    {
-        is_among(self.handles.as_slice(), handle)
-    }
-
-    /// How many handles the stop leaves.
-    pub(crate) fn count_left(&self, handles: &Handles<A>) -> usize
-        ensures count { result
-            ≡ length (spec.without_handles self.now.handles handles.now).handles }
-        ensures limit { result ≤ max_in_table }
-    {
-        handles.all().len() - count_live(handles, self.handles.as_slice())
     }
 
     /// Whether the stop removes the items of an agent and a controller on a handle.
@@ -332,7 +284,7 @@ impl<A: Allocator + Copy> StopPlan<A> {
         ensures { result ≡ spec.takes_item self.now handle agent controller }
     {
         names_any(self.handles.as_slice(), handle, agent, controller)
-            || self.pairs.has(Manager { controller, agent })
+            || has_pair(self.pairs.as_slice(), Pair { controller, agent })
     }
 
     /// Whether the pairs can be stopped, for a call on a handle, and of OpenProtocol also with its agent
@@ -344,7 +296,7 @@ impl<A: Allocator + Copy> StopPlan<A> {
         handles: &Handles<A>,
         opens: &Opens<A>,
         handle: u64,
-        opener: Option<Opener>,
+        opener: Option<Pair>,
     ) -> Result<bool, AllocError>
         ensures { IfOk result
             (λ b. b
@@ -354,22 +306,15 @@ impl<A: Allocator + Copy> StopPlan<A> {
         if self.pairs.as_slice().is_empty() {
             return Ok(true);
         }
-        can_be_stopped(alloc, drivers, handles, opens, &self.pairs, handle, opener)
-    }
-
-    /// Removes the handles with their interfaces. This takes no memory.
-    pub fn take_handles(&self, handles: &mut Handles<A>)
-        ensures { handles.new ≡ spec.without_handles self.now.handles handles.old }
-    {
-        remove_handles(handles, self.handles.as_slice());
-    }
-
-    /// Removes the items that name the handles, and those of the pairs. This takes no memory.
-    pub fn take_items(&self, opens: &mut Opens<A>)
-        ensures { opens.new ≡ spec.without_opens self.now.handles self.now.pairs opens.old }
-    {
-        take_naming(opens, self.handles.as_slice());
-        take_pairs(opens, self.pairs.as_slice());
+        can_be_stopped(
+            alloc,
+            drivers,
+            handles,
+            opens,
+            self.pairs.as_slice(),
+            handle,
+            opener,
+        )
     }
 
     /// Removes the handles with their interfaces, the items that name them, and those of the pairs. This takes no
@@ -378,8 +323,9 @@ impl<A: Allocator + Copy> StopPlan<A> {
         ensures handles { handles.new ≡ spec.without_handles self.now.handles handles.old }
         ensures opens { opens.new ≡ spec.without_opens self.now.handles self.now.pairs opens.old }
     {
-        self.take_handles(handles);
-        self.take_items(opens);
+        remove_handles(handles, self.handles.as_slice());
+        take_naming(opens, self.handles.as_slice());
+        take_pairs(opens, self.pairs.as_slice());
     }
 }
 
@@ -393,9 +339,9 @@ pub fn stop<D: Driver, A: Allocator + Copy>(
     handles: &mut Handles<A>,
     opens: &mut Opens<A>,
     drivers: &[D],
-    pairs: &[Manager],
+    pairs: &[Pair],
     handle: u64,
-    opener: Option<Opener>,
+    opener: Option<Pair>,
 ) -> Result<bool, AllocError>
     ensures ok { IfOk result
         (λ stopped. spec.Stops
@@ -417,7 +363,7 @@ pub(crate) fn managers_meant<A: Allocator + Copy>(
     opens: &Opens<A>,
     handle: u64,
     driver: u64,
-) -> Result<Vec<Manager, A>, AllocError>
+) -> Result<Vec<Pair, A>, AllocError>
     ensures { IfOk result (λ v. v.items ≡ spec.managers_meant opens.now handle driver) }
 {
     let mut pairs = opens.managers(handle)?;
@@ -426,11 +372,11 @@ pub(crate) fn managers_meant<A: Allocator + Copy>(
 }
 
 /// Keeps the pairs of a driver, or all if it is 0.
-fn keep_of_driver<A: Allocator>(pairs: &mut Vec<Manager, A>, driver: u64)
+fn keep_of_driver<A: Allocator>(pairs: &mut Vec<Pair, A>, driver: u64)
     ensures { pairs.new.items ≡ filter (spec.is_meant driver) pairs.old.items }
 {
     pairs.retain(
-        |p: &Manager| -> bool
+        |p: &Pair| -> bool
             ensures { result ≡ spec.is_meant driver p.now }
         { driver == 0 || p.agent == driver },
     );

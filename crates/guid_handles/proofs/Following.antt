@@ -1,22 +1,19 @@
--- The interface of a GUID with the least stamp above a mark, by the turns of its group.
-use Rattle.std.proofs.Common.{◌≡◌, ℕ, ◌<◌, ◌≤◌, ◌==◌, nat_lt, Bool, true, false, List, [], ◌∷◌, Option, Some, None, is_some, inl, inr, refl, sym, ap, ◌∙◌, arith, subst}
-use Rattle.std.specs.List.{filter, find, list_any, AllByRecursion}
+-- The interface of a GUID with the least stamp above a mark, by the stamps in its group.
+use Rattle.std.proofs.Common.{◌≡◌, ℕ, ◌≤◌, nat_lt, Bool, true, false, List, [], ◌∷◌, Option, Some, None, is_some, inl, inr, refl, sym, ap, ◌∙◌, arith, subst}
+use Rattle.std.specs.List.{filter, find, AllByRecursion}
 use Rattle.std.specs.Option.{option_map}
 use Rattle.std.proofs.lemmas.Bool.{cases_Bool, and_parts, eq-eqb, ltb-true, ltb-false}
 use Rattle.std.proofs.lemmas.Option.{same_Some}
 use Rattle.guid_handles.specs.declared.records.Interface.{Interface}
 use Rattle.guid_handles.specs.declared.records.Record.{Record}
-use Rattle.guid_handles.specs.declared.records.Turn.{Turn}
 use Rattle.guid_handles.specs.HandleTables.{is_of, is_on, is_at, is_after, earlier_of, earliest, next_after}
 use Rattle.guid_handles.specs.Sorting.{Ascending}
-use Rattle.guid_handles.specs.Indexes.{Row, Group, AreInTurn, is_turn, turns_of}
+use Rattle.guid_handles.specs.Indexes.{Row, Group, IsNext, stamp_at}
 use Rattle.guid_handles.specs.Slots.{installed_until}
-use Rattle.guid_handles.specs.Stores.{AreApart, IsStore, has_turn, table_of}
-use Rattle.guid_handles.proofs.SortedLists.{all_map, all_both, all_filtered, all_numbered, all_of, found_none}
+use Rattle.guid_handles.specs.Stores.{AreApart, IsStore, table_of}
+use Rattle.guid_handles.proofs.SortedLists.{all_map, all_both, all_filtered, all_of}
 use Rattle.guid_handles.proofs.GuidOrder.{same_guid-true}
-use Rattle.guid_handles.proofs.Grouped.{is_same}
 use Rattle.guid_handles.proofs.Indexed.{at_handle}
-use Rattle.guid_handles.proofs.InTurn.{any_one, found_any, own_turn, turn_stamp}
 use Rattle.guid_handles.proofs.Found.{earliest_one, found_one}
 
 -- ---- the least stamp
@@ -116,75 +113,45 @@ next_is guid mark listed a (Some i) (Some k) h e =
     let under : i.stamp ≤ k.stamp = h.2 k.handle k there.0 there.1 in
     ap (λ x. Some x) (one_of_stamp listed a (is_at i.handle guid) (is_at k.handle guid) i k h.0 there.0 (omega (arith, above, under)))
 
--- ---- by turns
+-- ---- by groups
 
--- the first turn above a mark has the least stamp of those above
-first_least : (mark : ℕ) (ts : List Turn) (t : Turn) → AreInTurn ts → find (λ u. nat_lt mark u.stamp) ts ≡ Some t → AllByRecursion (λ u. nat_lt mark u.stamp ≡ true → t.stamp ≤ u.stamp) ts
-first_least mark [] t a e = tt
-first_least mark (u ∷ us) t a e = elim (cases_Bool (nat_lt mark u.stamp)) [
-  | inl l ↦
-      let s : u ≡ t = same_Some u t (rw l at e) in
-      let under : t.stamp ≤ u.stamp = omega (arith, ap (λ (x : Turn). x.stamp) s) in (
-        λ p. under,
-        all_numbered (λ (x : Turn). x.stamp) (λ m. u.stamp < m) (λ m. nat_lt mark m ≡ true → t.stamp ≤ m) (λ m k p. omega (arith, k, under)) us a.0,
-      )
-  | inr l ↦ (λ p. let w : false ≡ true = sym l ∙ p in absurd cc, first_least mark us t a.1 (rw l at e))
-]
-
--- an interface of a GUID is at its turn
-after_turn : (guid : List ℕ) (mark : ℕ) (j : Interface) (n : ℕ) → is_at n guid j ≡ true → has_turn guid j.handle j.stamp j ≡ true
-after_turn guid mark j n h =
-    let own : is_of guid j ≡ true = (and_parts (is_on n j) (is_of guid j) h).1 in
-    rw (eq-eqb j.handle j.handle refl, own, eq-eqb j.stamp j.stamp refl) refl
-
-paired : (t : Turn) (i : Interface) → i.handle ≡ t.handle → i.stamp ≡ t.stamp
-    → option_map {U = ℕ × ℕ} (λ (u : Turn). (u.handle, u.stamp)) (Some t) ≡ option_map {U = ℕ × ℕ} (λ (x : Interface). (x.handle, x.stamp)) (Some i)
-paired t i h s = rw (h, s) refl
-
-module _ (guid : List ℕ) (mark : ℕ) (is : List Interface) (a : Ascending AreApart is) (ts : List Turn) (ordered : AreInTurn ts)
-    (turns : (n stamp : ℕ) → list_any (is_turn n stamp) ts ≡ list_any (has_turn guid n stamp) is) where
-  -- what holds of all turns holds of that of an interface
-  turn_of : (P : Turn → Type 0) → AllByRecursion P ts → (n : ℕ) (j : Interface) → find (is_at n guid) is ≡ Some j → (t : Turn) × (t.stamp ≡ j.stamp) × P t
-  turn_of P b n j e =
-      let own : is_at n guid j ≡ true = (found_one (λ x. Unit {0}) (is_at n guid) is j (all_of (λ x. Unit {0}) (λ x. tt) is) e).0 in
-      let t = any_one P (is_turn j.handle j.stamp) ts b (turns j.handle j.stamp ∙ found_any (is_at n guid) (has_turn guid j.handle j.stamp) is j e (after_turn guid mark j n own)) in
-      (t.0, turn_stamp j.handle j.stamp t.0 t.1, t.3)
-
-  next_turned : (o : Option Turn) → find (λ t. nat_lt mark t.stamp) ts ≡ o
-      → option_map {U = ℕ × ℕ} (λ t. (t.handle, t.stamp)) o ≡ option_map {U = ℕ × ℕ} (λ i. (i.handle, i.stamp)) (earliest (filter (is_after guid mark) is))
-  next_turned None e =
-      ap (option_map {U = ℕ × ℕ} (λ (i : Interface). (i.handle, i.stamp)))
-      (next_is guid mark is a None (earliest (filter (is_after guid mark) is))
-      (λ n j f p.
-      let t = turn_of (λ t. nat_lt mark t.stamp ≡ false) (found_none (λ t. nat_lt mark t.stamp) ts e) n j f in
-      let w : true ≡ false = sym (and_parts (is_of guid j) (nat_lt mark j.stamp) p).1 ∙ ap (nat_lt mark) (sym t.1) ∙ t.2 in cc) refl)
-  next_turned (Some t) e =
-      let above = found_in (λ u. nat_lt mark u.stamp) ts t e in
-      let there = sym (turns t.handle t.stamp) ∙ found_any (λ u. nat_lt mark u.stamp) (is_turn t.handle t.stamp) ts t e (own_turn t) in
-      let i = any_one (λ x. is_of guid x ≡ true → find (is_at x.handle guid) is ≡ Some x) (has_turn guid t.handle t.stamp) is (listed_self guid is a) there in
-      let parts = and_parts (is_at t.handle guid i.0) (i.0.stamp == t.stamp) i.1 in
-      let handle : i.0.handle ≡ t.handle = at_handle t.handle guid i.0 parts.0 in
-      let stamp : i.0.stamp ≡ t.stamp = is_same i.0.stamp t.stamp parts.1 in
-      let own : is_of guid i.0 ≡ true = (and_parts (is_on t.handle i.0) (is_of guid i.0) parts.0).1 in
-      let after : is_after guid mark i.0 ≡ true = rw (own, stamp, above) refl in
-      let least : (n : ℕ) (j : Interface) → find (is_at n guid) is ≡ Some j → is_after guid mark j ≡ true → i.0.stamp ≤ j.stamp =
-      λ n j f p.
-      let u = turn_of (λ u. nat_lt mark u.stamp ≡ true → t.stamp ≤ u.stamp) (first_least mark ts t ordered e) n j f in
-      let l : t.stamp ≤ u.0.stamp = u.2 (ap (nat_lt mark) u.1 ∙ (and_parts (is_of guid j) (nat_lt mark j.stamp) p).1) in
-      omega (arith, l, u.1, stamp) in
-      let same : Some i.0 ≡ earliest (filter (is_after guid mark) is) = next_is guid mark is a (Some i.0) (earliest (filter (is_after guid mark) is)) (i.3 own, after, least) refl in
-      paired t i.0 handle stamp ∙ ap (option_map {U = ℕ × ℕ} (λ (x : Interface). (x.handle, x.stamp))) same
-    where
-      found_in : (p : Turn → Bool) (us : List Turn) (u : Turn) → find p us ≡ Some u → p u ≡ true
-      found_in p [] u k = cc
-      found_in p (v ∷ vs) u k = elim (cases_Bool (p v)) [
-        | inl h ↦ let s : v ≡ u = same_Some v u (rw h at k) in rw (← s) h
-        | inr h ↦ found_in p vs u (rw h at k)
-      ]
+of_stamp : (o : Option Interface) (s : ℕ) → option_map (λ i. i.stamp) o ≡ Some s → (i : Interface) × (o ≡ Some i) × (i.stamp ≡ s)
+of_stamp None s e = absurd cc
+of_stamp (Some i) s e = (i, refl, same_Some i.stamp s e)
 
 module _ (rows : List Row) (slots : List (Option Record)) (groups : List Group) (number stamp places : ℕ) (s : IsStore rows slots groups number stamp places) where
+  stamp_of : (guid : List ℕ) (n : ℕ) (j : Interface) → find (is_at n guid) (installed_until stamp slots) ≡ Some j → stamp_at groups guid n ≡ Some j.stamp
+  stamp_of guid n j e = s.stamps guid n ∙ ap (option_map (λ (i : Interface). i.stamp)) e
+
   -- the interface that a group has next is the next of all
-  pub next_listed : (guid : List ℕ) (mark : ℕ) → AreInTurn (turns_of groups guid)
-      → option_map {U = ℕ × ℕ} (λ t. (t.handle, t.stamp)) (find (λ t. nat_lt mark t.stamp) (turns_of groups guid)) ≡ next_after (table_of rows slots number stamp places) guid mark
-  next_listed guid mark ordered =
-      next_turned guid mark (installed_until stamp slots) s.table.apart (turns_of groups guid) ordered (s.turns guid) (find (λ t. nat_lt mark t.stamp) (turns_of groups guid)) refl
+  pub next_listed : (guid : List ℕ) (mark : ℕ) (r : Option (ℕ × ℕ)) → IsNext mark (stamp_at groups guid) r → r ≡ next_after (table_of rows slots number stamp places) guid mark
+  next_listed guid mark None h =
+      let is : List Interface = installed_until stamp slots in
+      ap (option_map {U = ℕ × ℕ} (λ (i : Interface). (i.handle, i.stamp)))
+      (next_is guid mark is s.table.apart None (earliest (filter (is_after guid mark) is))
+      (λ n j f p. let w : true ≡ false = sym (and_parts (is_of guid j) (nat_lt mark j.stamp) p).1 ∙ h n j.stamp (stamp_of guid n j f) in cc) refl)
+  next_listed guid mark (Some p) h =
+      let is : List Interface = installed_until stamp slots in
+      let i = of_stamp (find (is_at p.0 guid) is) p.1 (sym (s.stamps guid p.0) ∙ h.0) in
+      let at : is_at p.0 guid i.0 ≡ true = (found_one (λ x. Unit {0}) (is_at p.0 guid) is i.0 (all_of (λ x. Unit {0}) (λ x. tt) is) i.1).0 in
+      let handle : i.0.handle ≡ p.0 = at_handle p.0 guid i.0 at in
+      let own : is_of guid i.0 ≡ true = (and_parts (is_on p.0 i.0) (is_of guid i.0) at).1 in
+      let there : find (is_at i.0.handle guid) is ≡ Some i.0 = rw handle i.1 in
+      let after : is_after guid mark i.0 ≡ true = rw (own, i.2, h.1) refl in
+      let least : (n : ℕ) (j : Interface) → find (is_at n guid) is ≡ Some j → is_after guid mark j ≡ true → i.0.stamp ≤ j.stamp =
+      λ n j f q. let l : p.1 ≤ j.stamp = h.2 n j.stamp (stamp_of guid n j f) (and_parts (is_of guid j) (nat_lt mark j.stamp) q).1 in omega (arith, l, i.2) in
+      let same : Some i.0 ≡ earliest (filter (is_after guid mark) is) = next_is guid mark is s.table.apart (Some i.0) (earliest (filter (is_after guid mark) is)) (there, after, least) refl in
+      paired p i.0 handle i.2 ∙ ap (option_map {U = ℕ × ℕ} (λ (x : Interface). (x.handle, x.stamp))) same
+    where
+      paired : (p : ℕ × ℕ) (i : Interface) → i.handle ≡ p.0 → i.stamp ≡ p.1 → Some p ≡ option_map {U = ℕ × ℕ} (λ (x : Interface). (x.handle, x.stamp)) (Some i)
+      paired p i a b = rw (a, b) refl
+
+  -- no interface is next after the last stamp
+  pub none_later : (guid : List ℕ) (mark : ℕ) → stamp ≤ mark → None ≡ next_after (table_of rows slots number stamp places) guid mark
+  none_later guid mark l = next_listed guid mark None (λ n t e.
+      let i = of_stamp (find (is_at n guid) (installed_until stamp slots)) t (sym (s.stamps guid n) ∙ e) in
+      let under : i.0.stamp ≤ stamp = (found_one (λ x. x.stamp ≤ stamp) (is_at n guid) (installed_until stamp slots) i.0 s.table.below i.1).1 in
+      elim (cases_Bool (nat_lt mark t)) [
+        | inl k ↦ absurd (omega (arith, ltb-true mark t k, under, i.2, l))
+        | inr f ↦ f
+      ])

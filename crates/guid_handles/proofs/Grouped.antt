@@ -1,22 +1,21 @@
--- Groups by GUID: which one is found, and which keys are once one of them has changed.
+-- Groups by GUID: which one is found, and which stamps are in them once one has changed.
 use Rattle.std.proofs.Math.ListN.{set}
 use Rattle.std.proofs.Math.Numerals.{add-one}
-use Rattle.std.proofs.Common.{get_or, take, ◌&&◌, ◌≡◌, ℕ, zero, suc, ◌<◌, ◌≤◌, ◌==◌, nat_lt, not, Bool, true, false, cond, List, [], ◌∷◌, map, length, Option, Some, None, is_some, inl, inr, refl, sym, ap, ◌∙◌, arith, subst, ◌+◌, ◌++◌}
-use Rattle.std.specs.List.{AllByRecursion, filter, find, list_any, slice_get, insert, remove}
+use Rattle.std.proofs.Common.{get_or, take, ◌&&◌, ◌≡◌, ℕ, zero, suc, ◌<◌, ◌≤◌, ◌==◌, nat_lt, Bool, true, false, cond, List, [], ◌∷◌, map, length, Option, Some, None, is_some, inl, inr, refl, sym, ap, ◌∙◌, arith, subst, ◌+◌, ◌++◌}
+use Rattle.std.specs.List.{find, list_any, slice_get, insert, remove}
 use Rattle.std.specs.Option.{option_map, option_and_then}
 use Rattle.std.specs.declared.cmp.Ordering.TheVariants.{Less}
 use Rattle.std.specs.Ordering.{nat_cmp, is_lt, is_eq}
 use Rattle.std.specs.Cmp.Lexicographic.{slice_cmp, texts_ties}
 use Rattle.std.proofs.lemmas.Cmp.{nat_list_cmp_total}
-use Rattle.std.proofs.lemmas.Bool.{and_parts, cases_Bool, ltb-false}
+use Rattle.std.proofs.lemmas.Bool.{cases_Bool, ltb-false}
 use Rattle.std.proofs.lemmas.Bool.Decides.{eqb_tells}
 use Rattle.std.proofs.lemmas.List.{set-get_or}
 use Rattle.std.proofs.lemmas.Option.{same_Some}
-use Rattle.guid_handles.specs.declared.records.Turn.{Turn}
 use Rattle.guid_handles.specs.HandleTables.{same_guid}
 use Rattle.guid_handles.specs.Sorting.{Ascending, place, kept_if}
-use Rattle.guid_handles.specs.Indexes.{Group, ChangesTurns, HaveSameKeys, HaveSameTurns, SetsKey, is_bare, is_group_of, is_before, AscendByGuid, IsPlaceOf, key_beside, key_in, key_at, turns_in, turns_of}
-use Rattle.guid_handles.proofs.SortedLists.{all_filter, all_mapped, set_same, find_none, found_none, find_split, find_insert_other, find_insert_new, ascending_insert, map_insert, place_map}
+use Rattle.guid_handles.specs.Indexes.{Group, AreGroups, IsNext, is_bare, is_group_of, is_before, AscendByGuid, IsPlaceOf, stamp_beside, stamp_in, stamp_at}
+use Rattle.guid_handles.proofs.SortedLists.{IsSplit, all_insert, all_mapped, all_remove, all_set, ascending_remove, set_same, find_none, found_none, find_split, find_insert_other, find_insert_new, ascending_insert, map_insert, map_remove, place_map}
 use Rattle.guid_handles.proofs.GuidOrder.{same_guid-true, guid_splits, is_less, less_from, greater_of, and_false, and_true}
 
 pub is_same : (m n : ℕ) → (m == n) ≡ true → m ≡ n
@@ -69,6 +68,14 @@ pub none_returned : {G : Type 0} (now : G → Group) (groups : List Group) (guid
     → option_map now o ≡ kept_if (is_group_of guid) (slice_get groups at) → is_some o ≡ false → find (is_group_of guid) groups ≡ None
 none_returned now groups guid at o a e k s = sym (found_group groups guid at a e) ∙ none_of (kept_if (is_group_of guid) (slice_get groups at)) (ap is_some (sym k) ∙ some_map now o ∙ s)
 
+-- a bare group has no stamps
+pub no_stamps : (g : Group) → is_bare g ≡ true → (n : ℕ) → stamp_in g n ≡ None
+no_stamps g b n = held_none g.holders (is_same (length g.holders) 0 b)
+  where
+    held_none : (hs : List ℕ) → length hs ≡ 0 → stamp_beside hs g.stamps n ≡ None
+    held_none [] z = refl
+    held_none (h ∷ hs) z = absurd (omega (arith, z))
+
 -- ---- one group changes
 
 pub find_set_new : {X : Type 0} (q before : X → Bool) → ((x : X) → before x ≡ true → q x ≡ false) → (xs : List X) (y : X) → place before xs < length xs → q y ≡ true → find q (set xs (place before xs) y) ≡ Some y
@@ -111,51 +118,44 @@ group_set groups guid at g new p e s k =
     ]
 
 -- a group of a GUID takes the place of another
-pub key_set : (groups : List Group) (guid : List ℕ) (at : ℕ) (g new : Group) → IsPlaceOf guid groups at → slice_get groups at ≡ Some g → new.guid ≡ g.guid
-    → (k : List ℕ) (n : ℕ) → key_at (set groups at new) k n ≡ cond (same_guid guid k) (key_in new n) (key_at groups k n)
-key_set groups guid at g new p e s k n =
-    ap (option_and_then (λ h. key_in h n)) (group_set groups guid at g new p e s k) ∙ elim (cases_Bool (same_guid guid k)) [
+pub stamp_set : (groups : List Group) (guid : List ℕ) (at : ℕ) (g new : Group) → IsPlaceOf guid groups at → slice_get groups at ≡ Some g → new.guid ≡ g.guid
+    → (k : List ℕ) (n : ℕ) → stamp_at (set groups at new) k n ≡ cond (same_guid guid k) (stamp_in new n) (stamp_at groups k n)
+stamp_set groups guid at g new p e s k n =
+    ap (option_and_then (λ h. stamp_in h n)) (group_set groups guid at g new p e s k) ∙ elim (cases_Bool (same_guid guid k)) [
       | inl y ↦ rw y refl
       | inr f ↦ rw f refl
     ]
 
 -- what the group at a place has is what is found
-pub key_there : (groups : List Group) (guid : List ℕ) (at : ℕ) (g : Group) → IsPlaceOf guid groups at → slice_get groups at ≡ Some g → (n : ℕ) → key_at groups guid n ≡ key_in g n
-key_there groups guid at g p e n = ap (option_and_then (λ h. key_in h n)) (p.1 ∙ e)
+pub stamp_there : (groups : List Group) (guid : List ℕ) (at : ℕ) (g : Group) → IsPlaceOf guid groups at → slice_get groups at ≡ Some g → (n : ℕ) → stamp_at groups guid n ≡ stamp_in g n
+stamp_there groups guid at g p e n = ap (option_and_then (λ h. stamp_in h n)) (p.1 ∙ e)
 
--- one key of a group changes
-pub key_changed : (groups : List Group) (guid : List ℕ) (at : ℕ) (g new : Group) (m : ℕ) (o : Option ℕ) → IsPlaceOf guid groups at → slice_get groups at ≡ Some g → new.guid ≡ g.guid
-    → ((n : ℕ) → key_in new n ≡ cond (m == n) o (key_in g n))
-    → (k : List ℕ) (n : ℕ) → key_at (set groups at new) k n ≡ cond ((m == n) && same_guid guid k) o (key_at groups k n)
-key_changed groups guid at g new m o p e s c k n = elim (cases_Bool (same_guid guid k)) [
+-- one stamp of a group changes
+pub stamp_changed : (groups : List Group) (guid : List ℕ) (at : ℕ) (g new : Group) (m : ℕ) (o : Option ℕ) → IsPlaceOf guid groups at → slice_get groups at ≡ Some g → new.guid ≡ g.guid
+    → ((n : ℕ) → stamp_in new n ≡ cond (m == n) o (stamp_in g n))
+    → (k : List ℕ) (n : ℕ) → stamp_at (set groups at new) k n ≡ cond ((m == n) && same_guid guid k) o (stamp_at groups k n)
+stamp_changed groups guid at g new m o p e s c k n = elim (cases_Bool (same_guid guid k)) [
   | inl y ↦
-      key_set groups guid at g new p e s k n
-      ∙ rw (y, and_true (m == n)) (rw (← same_guid-true guid k y) (c n ∙ ap (cond (m == n) o) (sym (key_there groups guid at g p e n))))
-  | inr f ↦ key_set groups guid at g new p e s k n ∙ rw (f, and_false (m == n)) refl
+      stamp_set groups guid at g new p e s k n
+      ∙ rw (y, and_true (m == n)) (rw (← same_guid-true guid k y) (c n ∙ ap (cond (m == n) o) (sym (stamp_there groups guid at g p e n))))
+  | inr f ↦ stamp_set groups guid at g new p e s k n ∙ rw (f, and_false (m == n)) refl
 ]
 
--- no key of a group changes
-pub key_same : (groups : List Group) (guid : List ℕ) (at : ℕ) (g new : Group) → IsPlaceOf guid groups at → slice_get groups at ≡ Some g → new.guid ≡ g.guid → ((n : ℕ) → key_in new n ≡ key_in g n)
-    → (k : List ℕ) (n : ℕ) → key_at (set groups at new) k n ≡ key_at groups k n
-key_same groups guid at g new p e s c k n = key_set groups guid at g new p e s k n ∙ elim (cases_Bool (same_guid guid k)) [
-  | inl y ↦ rw y (rw (← same_guid-true guid k y) (c n ∙ sym (key_there groups guid at g p e n)))
-  | inr f ↦ rw f refl
+ascend_set : (groups : List Group) (at : ℕ) (g new : Group) → AscendByGuid groups → slice_get groups at ≡ Some g → new.guid ≡ g.guid → AscendByGuid (set groups at new)
+ascend_set groups at g new a e s = subst (Ascending (λ x y. slice_cmp nat_cmp x y ≡ Less)) (sym (set_same (λ h. h.guid) groups at g new e s)) a
+
+-- a group that has a stamp is not bare
+pub held_by : (g : Group) (n s : ℕ) → stamp_in g n ≡ Some s → is_bare g ≡ false
+held_by g n s e = elim (cases_Bool (is_bare g)) [
+  | inl t ↦ let w : None ≡ Some s = sym (no_stamps g t n) ∙ e in absurd cc
+  | inr f ↦ f
 ]
 
--- what the group at a place has by stamps
-pub turns_there : (groups : List Group) (guid : List ℕ) (at : ℕ) (g : Group) → IsPlaceOf guid groups at → slice_get groups at ≡ Some g → turns_of groups guid ≡ g.turns
-turns_there groups guid at g p e = ap turns_in (p.1 ∙ e)
-
--- the turns of a group change
-pub turns_set : (groups : List Group) (guid : List ℕ) (at : ℕ) (g new : Group) (f : List Turn → List Turn) → IsPlaceOf guid groups at → slice_get groups at ≡ Some g → new.guid ≡ g.guid → new.turns ≡ f g.turns
-    → (k : List ℕ) → turns_of (set groups at new) k ≡ cond (same_guid guid k) (f (turns_of groups k)) (turns_of groups k)
-turns_set groups guid at g new f p e s c k = ap turns_in (group_set groups guid at g new p e s k) ∙ elim (cases_Bool (same_guid guid k)) [
-  | inl y ↦ rw y (rw (← same_guid-true guid k y) (c ∙ ap f (sym (turns_there groups guid at g p e))))
-  | inr n ↦ rw n refl
-]
-
-pub groups_set : (groups : List Group) (at : ℕ) (g new : Group) → AscendByGuid groups → slice_get groups at ≡ Some g → new.guid ≡ g.guid → AscendByGuid (set groups at new)
-groups_set groups at g new a e s = subst (Ascending (λ x y. slice_cmp nat_cmp x y ≡ Less)) (sym (set_same (λ h. h.guid) groups at g new e s)) a
+pub groups_set : (groups : List Group) (at : ℕ) (g new : Group) → AreGroups groups → slice_get groups at ≡ Some g → new.guid ≡ g.guid → is_bare new ≡ false → AreGroups (set groups at new)
+groups_set groups at g new a e s b = record {
+  ascending = ascend_set groups at g new a.ascending e s;
+  held = all_set (λ h. is_bare h ≡ false) groups at new a.held b;
+}
 
 -- ---- a group comes
 
@@ -186,56 +186,29 @@ group_insert groups new guid at own none k = elim (cases_Bool (same_guid guid k)
 ]
 
 -- a group of a GUID that has none, with one holder
-pub key_insert : (groups : List Group) (new : Group) (guid : List ℕ) (at m key : ℕ) → new.guid ≡ guid → find (is_group_of guid) groups ≡ None → ((n : ℕ) → key_in new n ≡ cond (m == n) (Some key) None)
-    → (k : List ℕ) (n : ℕ) → key_at (insert groups at new) k n ≡ cond ((m == n) && same_guid guid k) (Some key) (key_at groups k n)
-key_insert groups new guid at m key own none c k n = ap (option_and_then (λ h. key_in h n)) (group_insert groups new guid at own none k) ∙ elim (cases_Bool (same_guid guid k)) [
+pub stamp_insert : (groups : List Group) (new : Group) (guid : List ℕ) (at m key : ℕ) → new.guid ≡ guid → find (is_group_of guid) groups ≡ None → ((n : ℕ) → stamp_in new n ≡ cond (m == n) (Some key) None)
+    → (k : List ℕ) (n : ℕ) → stamp_at (insert groups at new) k n ≡ cond ((m == n) && same_guid guid k) (Some key) (stamp_at groups k n)
+stamp_insert groups new guid at m key own none c k n = ap (option_and_then (λ h. stamp_in h n)) (group_insert groups new guid at own none k) ∙ elim (cases_Bool (same_guid guid k)) [
   | inl y ↦
       let e : find (is_group_of k) groups ≡ None = rw (← same_guid-true guid k y) none in
       rw (y, and_true (m == n)) (rw e (c n))
   | inr f ↦ rw (f, and_false (m == n)) refl
 ]
 
-pub turns_insert : (groups : List Group) (new : Group) (guid : List ℕ) (at : ℕ) (f : List Turn → List Turn) → new.guid ≡ guid → find (is_group_of guid) groups ≡ None → new.turns ≡ f []
-    → (k : List ℕ) → turns_of (insert groups at new) k ≡ cond (same_guid guid k) (f (turns_of groups k)) (turns_of groups k)
-turns_insert groups new guid at f own none c k = ap turns_in (group_insert groups new guid at own none k) ∙ elim (cases_Bool (same_guid guid k)) [
-  | inl y ↦
-      let e : find (is_group_of k) groups ≡ None = rw (← same_guid-true guid k y) none in
-      rw y (c ∙ ap (λ o. f (turns_in o)) (sym e))
-  | inr n ↦ rw n refl
-]
+pub groups_insert : (groups : List Group) (new : Group) (guid : List ℕ) (at : ℕ) → new.guid ≡ guid → AreGroups groups → find (is_group_of guid) groups ≡ None → at ≡ place (is_before guid) groups → is_bare new ≡ false
+    → AreGroups (insert groups at new)
+groups_insert groups new guid at own a none e b = record {
+  ascending = ascend_insert groups new at a.ascending (rw own none) (rw own e);
+  held = all_insert (λ h. is_bare h ≡ false) groups at new a.held b;
+}
 
-pub groups_insert : (groups : List Group) (new : Group) (guid : List ℕ) (at : ℕ) → new.guid ≡ guid → AscendByGuid groups → find (is_group_of guid) groups ≡ None → at ≡ place (is_before guid) groups → AscendByGuid (insert groups at new)
-groups_insert groups new guid at own a none e = ascend_insert groups new at a (rw own none) (rw own e)
+-- ---- a group goes
 
--- ---- bare groups go
-
--- a bare group has no holders, and no turns
-pub bare_parts : (g : Group) → is_bare g ≡ true → (length g.holders ≡ 0) × (g.turns ≡ [])
-bare_parts g h =
-    let parts = and_parts (length g.holders == 0) (length g.turns == 0) h in
-    (is_same (length g.holders) 0 parts.0, empty g.turns (is_same (length g.turns) 0 parts.1))
-  where
-    empty : (ts : List Turn) → length ts ≡ 0 → ts ≡ []
-    empty [] e = refl
-    empty (t ∷ ts) e = absurd (omega (arith, e))
-
--- so it is a group without anything
-pub bare_whole : (g : Group) → is_bare g ≡ true → length g.holders ≡ length g.keys → record { guid = g.guid; holders = []; keys = []; turns = [] } ≡ g
-bare_whole g h even =
-    let parts = bare_parts g h in
-    rw (none g.holders parts.0, none g.keys (sym even ∙ parts.0), parts.1) refl
-  where
-    none : (xs : List ℕ) → length xs ≡ 0 → xs ≡ []
-    none [] e = refl
-    none (x ∷ xs) e = absurd (omega (arith, e))
-
--- no holders, no keys
-pub no_keys : (g : Group) → length g.holders ≡ 0 → (n : ℕ) → key_in g n ≡ None
-no_keys g e n = held_none g.holders e
-  where
-    held_none : (hs : List ℕ) → length hs ≡ 0 → key_beside hs g.keys n ≡ None
-    held_none [] z = refl
-    held_none (h ∷ hs) z = absurd (omega (arith, z))
+pub groups_remove : (groups : List Group) (at : ℕ) → AreGroups groups → AreGroups (remove groups at)
+groups_remove groups at a = record {
+  ascending = rw (map_remove (λ g. g.guid) groups at) (ascending_remove (λ x y. slice_cmp nat_cmp x y ≡ Less) (map (λ g. g.guid) groups) at a.ascending);
+  held = all_remove (λ h. is_bare h ≡ false) groups at a.held;
+}
 
 pub remove_set : {X : Type 0} (xs : List X) (at : ℕ) (y : X) → remove (set xs at y) at ≡ remove xs at
 remove_set [] zero y = refl
@@ -243,76 +216,46 @@ remove_set [] (suc at) y = refl
 remove_set (x ∷ xs) zero y = refl
 remove_set (x ∷ xs) (suc at) y = ap (λ r. x ∷ r) (remove_set xs at y)
 
-all_held : (P : List ℕ → Type 0) (gs : List Group) → AllByRecursion P (map (λ g. g.guid) gs) → AllByRecursion P (map (λ g. g.guid) (filter (λ g. not (is_bare g)) gs))
-all_held P [] a = tt
-all_held P (g ∷ gs) a = elim (cases_Bool (is_bare g)) [
-  | inl b ↦ rw b (all_held P gs a.1)
-  | inr h ↦ rw h (a.0, all_held P gs a.1)
+find_removed_other : {X : Type 0} (q : X → Bool) (xs : List X) (at : ℕ) (x : X) → slice_get xs at ≡ Some x → q x ≡ false → find q (remove xs at) ≡ find q xs
+find_removed_other q [] zero x e f = refl
+find_removed_other q [] (suc at) x e f = refl
+find_removed_other q (z ∷ zs) zero x e f = let n : q z ≡ false = rw (same_Some z x e) f in rw n refl
+find_removed_other q (z ∷ zs) (suc at) x e f = ap (λ r. cond (q z) (Some z) r) (find_removed_other q zs at x e f)
+
+find_removed : {X : Type 0} (before q : X → Bool) (xs : List X) → IsSplit before q xs → place before xs < length xs → find q (remove xs (place before xs)) ≡ None
+find_removed before q [] h l = absurd (omega (arith, l))
+find_removed before q (x ∷ xs) h l = elim (cases_Bool (before x)) [
+  | inl e ↦
+      let m : place before xs < length xs = omega (arith, rw e at l) in
+      rw e (rw (h.0 e) (find_removed before q xs h.2 m))
+  | inr e ↦ rw e (find_none q xs (h.1 e))
 ]
 
-pub held_ascend : (gs : List Group) → AscendByGuid gs → AscendByGuid (filter (λ g. not (is_bare g)) gs)
-held_ascend [] a = tt
-held_ascend (g ∷ gs) a = elim (cases_Bool (is_bare g)) [
-  | inl b ↦ rw b (held_ascend gs a.1)
-  | inr h ↦ rw h (all_held (λ k. slice_cmp nat_cmp g.guid k ≡ Less) gs a.0, held_ascend gs a.1)
+-- a bare group may go
+pub bare_removed : (groups : List Group) (guid : List ℕ) (at : ℕ) (g new : Group) → AscendByGuid groups → IsPlaceOf guid groups at → slice_get groups at ≡ Some g → new.guid ≡ g.guid → is_bare new ≡ true
+    → (k : List ℕ) (n : ℕ) → stamp_at (remove groups at) k n ≡ stamp_at (set groups at new) k n
+bare_removed groups guid at g new a p e s b k n = elim (cases_Bool (same_guid guid k)) [
+  | inl y ↦
+      let same : guid ≡ k = same_guid-true guid k y in
+      let gone : find (is_group_of guid) (remove groups at) ≡ None =
+      subst (λ (m : ℕ). find (is_group_of guid) (remove groups m) ≡ None) (sym p.2) (find_removed (is_before guid) (is_group_of guid) groups (guid_splits guid groups a) (subst (λ m. m < length groups) p.2 p.0)) in
+      let none : find (is_group_of k) (remove groups at) ≡ None = rw (← same) gone in
+      ap (option_and_then (λ h. stamp_in h n)) none ∙ sym (stamp_set groups guid at g new p e s k n ∙ rw y (no_stamps new b n))
+  | inr f ↦
+      let own : g.guid ≡ guid = same_guid-true g.guid guid (found_of groups guid g (p.1 ∙ e)) in
+      ap (option_and_then (λ h. stamp_in h n)) (find_removed_other (is_group_of k) groups at g e (other_guid guid k g.guid own f))
+      ∙ sym (stamp_set groups guid at g new p e s k n ∙ rw f refl)
 ]
 
--- the group of a GUID that is found then is the one before, unless that was bare
-held_found : (k : List ℕ) (gs : List Group) → AscendByGuid gs → find (is_group_of k) (filter (λ g. not (is_bare g)) gs) ≡ kept_if (λ g. not (is_bare g)) (find (is_group_of k) gs)
-held_found k [] a = refl
-held_found k (g ∷ gs) a = elim (cases_Bool (is_group_of k g)) [
-  | inl t ↦
-      let first : is_before k g ≡ false = elim (cases_Bool (is_before k g)) [
-        | inl b ↦ let w : false ≡ true = sym (before_other k g b) ∙ t in absurd cc
-        | inr n ↦ n
-      ] in
-      let others = (guid_splits k (g ∷ gs) a).1 first in
-      elim (cases_Bool (is_bare g)) [
-        | inl b ↦ rw (t, b) (find_none (is_group_of k) (filter (λ h. not (is_bare h)) gs) (all_filter (λ h. is_group_of k h ≡ false) (λ h. not (is_bare h)) gs others))
-        | inr h ↦ rw (t, h) (rw t refl)
-      ]
-  | inr f ↦ elim (cases_Bool (is_bare g)) [
-    | inl b ↦ rw (f, b) (held_found k gs a.1)
-    | inr h ↦ rw (f, h) (rw f (held_found k gs a.1))
-  ]
-]
+pub none_stamped : (groups : List Group) (guid : List ℕ) (n : ℕ) → find (is_group_of guid) groups ≡ None → stamp_at groups guid n ≡ None
+none_stamped groups guid n e = ap (option_and_then (λ g. stamp_in g n)) e
 
-pub held_keys : (gs : List Group) → AscendByGuid gs → (k : List ℕ) (n : ℕ) → key_at (filter (λ g. not (is_bare g)) gs) k n ≡ key_at gs k n
-held_keys gs a k n = ap (option_and_then (λ g. key_in g n)) (held_found k gs a) ∙ same (find (is_group_of k) gs)
-  where
-    same : (o : Option Group) → option_and_then (λ g. key_in g n) (kept_if (λ g. not (is_bare g)) o) ≡ option_and_then (λ g. key_in g n) o
-    same None = refl
-    same (Some g) = elim (cases_Bool (is_bare g)) [
-      | inl b ↦ rw b (sym (no_keys g (bare_parts g b).0 n))
-      | inr h ↦ rw h refl
-    ]
-
-pub held_turns : (gs : List Group) → AscendByGuid gs → (k : List ℕ) → turns_of (filter (λ g. not (is_bare g)) gs) k ≡ turns_of gs k
-held_turns gs a k = ap turns_in (held_found k gs a) ∙ same (find (is_group_of k) gs)
-  where
-    same : (o : Option Group) → turns_in (kept_if (λ g. not (is_bare g)) o) ≡ turns_in o
-    same None = refl
-    same (Some g) = elim (cases_Bool (is_bare g)) [
-      | inl b ↦ rw b (sym (bare_parts g b).1)
-      | inr h ↦ rw h refl
-    ]
-
-pub held_none : (gs : List Group) → AscendByGuid gs → (k : List ℕ) → find (is_group_of k) gs ≡ None → find (is_group_of k) (filter (λ g. not (is_bare g)) gs) ≡ None
-held_none gs a k none = held_found k gs a ∙ ap (kept_if (λ g. not (is_bare g))) none
-
--- what changes after bare groups went
-pub sets_after : (guid : List ℕ) (m : ℕ) (o : Option ℕ) (old mid new : List Group) → HaveSameKeys old mid → SetsKey guid m o mid new → SetsKey guid m o old new
-sets_after guid m o old mid new h s k n = s k n ∙ ap (λ x. cond ((m == n) && same_guid guid k) o x) (h k n)
-
-pub turns_after : (guid : List ℕ) (f : List Turn → List Turn) (old mid new : List Group) → HaveSameTurns old mid → ChangesTurns guid f mid new → ChangesTurns guid f old new
-turns_after guid f old mid new h c k = c k ∙ ap (λ x. cond (same_guid guid k) (f x) x) (h k)
-
--- no group, no key
-pub none_there : (groups : List Group) (guid : List ℕ) (m : ℕ) → find (is_group_of guid) groups ≡ None → (k : List ℕ) (n : ℕ) → key_at groups k n ≡ cond ((m == n) && same_guid guid k) None (key_at groups k n)
+-- no group, no stamp
+pub none_there : (groups : List Group) (guid : List ℕ) (m : ℕ) → find (is_group_of guid) groups ≡ None → (k : List ℕ) (n : ℕ) → stamp_at groups k n ≡ cond ((m == n) && same_guid guid k) None (stamp_at groups k n)
 none_there groups guid m none k n = elim (cases_Bool (same_guid guid k)) [
   | inl y ↦
       let e : find (is_group_of k) groups ≡ None = rw (← same_guid-true guid k y) none in
-      rw (y, and_true (m == n)) (same_either (m == n) (key_at groups k n) (ap (option_and_then (λ h. key_in h n)) e))
+      rw (y, and_true (m == n)) (same_either (m == n) (stamp_at groups k n) (ap (option_and_then (λ h. stamp_in h n)) e))
   | inr f ↦ rw (f, and_false (m == n)) refl
 ]
   where
@@ -320,34 +263,24 @@ none_there groups guid m none k n = elim (cases_Bool (same_guid guid k)) [
     same_either true o e = e
     same_either false o e = refl
 
--- the turns of a GUID are those of the group that is found
-pub turns_returned : (groups : List Group) (guid : List ℕ) (g : Group) → Some g ≡ find (is_group_of guid) groups → turns_of groups guid ≡ g.turns
-turns_returned groups guid g e = ap turns_in (sym e)
-
--- no group, no turns
-pub no_turns : (groups : List Group) (guid : List ℕ) → find (is_group_of guid) groups ≡ None → turns_of groups guid ≡ []
-no_turns groups guid none = ap turns_in none
-
-pub none_turned : (groups : List Group) (guid : List ℕ) (f : List Turn → List Turn) → find (is_group_of guid) groups ≡ None → f [] ≡ []
-    → (k : List ℕ) → turns_of groups k ≡ cond (same_guid guid k) (f (turns_of groups k)) (turns_of groups k)
-none_turned groups guid f none c k = elim (cases_Bool (same_guid guid k)) [
-  | inl y ↦
-      let e : turns_of groups k ≡ [] = rw (← same_guid-true guid k y) (no_turns groups guid none) in
-      rw (y, e) (sym c)
-  | inr n ↦ rw n refl
-]
-
--- the handles of a group are those that have a key in it
-pub holders_returned : (groups : List Group) (guid : List ℕ) (g : Group) → Some g ≡ find (is_group_of guid) groups → length g.holders ≡ length g.keys → (n : ℕ) → list_any (λ h. h == n) g.holders ≡ is_some (key_at groups guid n)
-holders_returned groups guid g e even n = any_beside n g.holders g.keys even ∙ ap (λ o. is_some (option_and_then (λ h. key_in h n) o)) e
+-- the handles of a group are those that have a stamp in it
+pub holders_returned : (groups : List Group) (guid : List ℕ) (g : Group) → Some g ≡ find (is_group_of guid) groups → length g.holders ≡ length g.stamps → (n : ℕ) → list_any (λ h. h == n) g.holders ≡ is_some (stamp_at groups guid n)
+holders_returned groups guid g e even n = any_beside n g.holders g.stamps even ∙ ap (λ o. is_some (option_and_then (λ h. stamp_in h n) o)) e
   where
-    any_beside : (n : ℕ) (hs ks : List ℕ) → length hs ≡ length ks → list_any (λ h. h == n) hs ≡ is_some (key_beside hs ks n)
+    any_beside : (n : ℕ) (hs ks : List ℕ) → length hs ≡ length ks → list_any (λ h. h == n) hs ≡ is_some (stamp_beside hs ks n)
     any_beside n [] ks e = refl
     any_beside n (h ∷ hs) [] e = absurd (omega (arith, e))
     any_beside n (h ∷ hs) (k ∷ ks) e = elim (cases_Bool (h == n)) [
       | inl t ↦ rw t refl
       | inr f ↦ rw f (any_beside n hs ks (omega (arith, e)))
     ]
+
+-- the next stamp of a GUID is that of its group
+pub next_found : (groups : List Group) (guid : List ℕ) (mark : ℕ) (g : Group) (r : Option (ℕ × ℕ)) → Some g ≡ find (is_group_of guid) groups → IsNext mark (stamp_in g) r → IsNext mark (stamp_at groups guid) r
+next_found groups guid mark g r e h = subst (λ (o : Option Group). IsNext mark (λ n. option_and_then (λ x. stamp_in x n) o) r) e h
+
+pub next_none : (groups : List Group) (guid : List ℕ) (mark : ℕ) → find (is_group_of guid) groups ≡ None → IsNext mark (stamp_at groups guid) None
+next_none groups guid mark e = subst (λ (o : Option Group). IsNext mark (λ n. option_and_then (λ x. stamp_in x n) o) None) (sym e) (λ n s k. absurd cc)
 
 pub got : {X : Type 0} (xs : List X) (at : ℕ) (x : X) → at < length xs → x ≡ get_or xs at x → slice_get xs at ≡ Some x
 got [] at x l e = absurd (omega arith)

@@ -12,15 +12,13 @@ pub mod FiledRows
 pub mod SlidRows
 pub mod Slotted
 pub mod Filed
-pub mod InTurn
-pub mod FiledTurns
+pub mod ByGuid
 pub mod Apart
 pub mod Found
 pub mod ProperChanges
 pub mod Stored
 pub mod Following
-pub mod JoinedRows
-pub mod BlockLists
 pub mod PlaceLists
+pub mod FirstMap
 pub mod Made
 pub mod TakenBack

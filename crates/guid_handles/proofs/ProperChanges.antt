@@ -3,7 +3,7 @@ use Rattle.std.proofs.Common.{◌≡◌, ℕ, ◌+◌, ◌<◌, ◌≤◌, nat_e
 use Rattle.std.specs.List.{filter, list_any, AllByRecursion}
 use Rattle.guid_handles.specs.declared.records.Interface.{Interface}
 use Rattle.guid_handles.specs.declared.records.LiveHandle.{LiveHandle}
-use Rattle.guid_handles.specs.declared.records.Maker.{Maker}
+use Rattle.guid_handles.specs.declared.records.Pair.{Pair}
 use Rattle.guid_handles.specs.HandleTables.{HandleTable, has_number, is_live, numbers}
 use Rattle.guid_handles.specs.HandleChanges.{IsHandleTable, restamped, stamped, with_handle, with_interfaces}
 use Rattle.guid_handles.specs.Indexes.{AreOn}
@@ -80,7 +80,7 @@ with_handle_on_live n ns is a =
     all_map (λ i. list_any (λ m. nat_eq m i.handle) ns ≡ true) (λ i. list_any (λ m. nat_eq m i.handle) (ns ++ n ∷ []) ≡ true) (λ i h. any_push (λ m. nat_eq m i.handle) ns n h) is a
 
 -- a new handle has the number after the last
-pub one_more : (maker : Option Maker) (t : HandleTable) → IsHandleTable t → length t.handles < t.places → IsHandleTable (with_handle maker t)
+pub one_more : (maker : Option Pair) (t : HandleTable) → IsHandleTable t → length t.handles < t.places → IsHandleTable (with_handle maker t)
 one_more maker t h room =
     let e : numbers (with_handle maker t) ≡ numbers t ++ (t.last_number + 1) ∷ [] = map_append (λ (x : LiveHandle). x.number) t.handles (record { number = t.last_number + 1; maker = maker } ∷ []) in
     record {

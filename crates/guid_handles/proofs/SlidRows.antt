@@ -1,4 +1,5 @@
 -- Rows that begin behind values that went: what goes, and what comes.
+use Rattle.std.proofs.Math.ListN.{set}
 use Rattle.std.proofs.Common.{◌≡◌, ℕ, zero, suc, ◌+◌, ◌<◌, ◌≤◌, List, [], ◌∷◌, ◌++◌, length, take, drop, refl, sym, ap, ◌∙◌, arith, append_assoc, Result, Ok, Err, OnErr}
 use Rattle.std.specs.List.{insert, remove}
 use Rattle.std.proofs.Math.Seq.{drop_at, paste, length-take-le}
@@ -24,6 +25,14 @@ slid_insert [] (suc g) n at x e l = absurd (omega (arith, l))
 slid_insert (y ∷ xs) (suc g) n zero x e l = absurd (omega (arith, e))
 slid_insert (y ∷ xs) (suc g) n (suc at) x e l = slid_insert xs g n at x (omega (arith, e)) (omega (arith, l))
 
+pub slid_set : {X : Type 0} (xs : List X) (g n at : ℕ) (x : X) → at ≡ g + n → drop g (set xs at x) ≡ set (drop g xs) n x
+slid_set xs zero n at x e = ap (λ k. set xs k x) (omega (arith, e))
+slid_set [] (suc g) n zero x e = absurd (omega (arith, e))
+slid_set [] (suc g) zero (suc at) x e = refl
+slid_set [] (suc g) (suc n) (suc at) x e = refl
+slid_set (y ∷ xs) (suc g) n zero x e = absurd (omega (arith, e))
+slid_set (y ∷ xs) (suc g) n (suc at) x e = slid_set xs g n at x (omega (arith, e))
+
 -- a place of the row is one of all values
 pub below_end : {X : Type 0} (xs : List X) (g n : ℕ) → n < length (drop g xs) → g + n < length xs
 below_end xs g n l = omega (arith, l, length-drop g xs)
@@ -32,24 +41,3 @@ below_end xs g n l = omega (arith, l, length-drop g xs)
 pub on_err : {T E : Type 0} (result : Result T E) (P : Type 0) → P → OnErr result P
 on_err (Ok value) P p = tt
 on_err (Err error) P p = p
-
--- ---- a few places in an array
-
-front : {X : Type 0} (xs rest : List X) (n : ℕ) → n ≤ length xs → take n (take n xs ++ rest) ≡ take n xs
-front xs rest zero l = refl
-front [] rest (suc n) l = absurd (omega (arith, l))
-front (x ∷ xs) rest (suc n) l = ap (λ r. x ∷ r) (front xs rest n (omega (arith, l)))
-
-closed : {X : Type 0} (xs : List X) (left behind at : ℕ) → at + behind ≡ left → left < length xs → take left (take at xs ++ take behind (drop (suc at) xs) ++ drop left xs) ≡ remove (take (suc left) xs) at
-closed [] left behind at e l = absurd (omega (arith, l))
-closed (x ∷ xs) left behind zero e l =
-    let all : behind ≡ left = omega (arith, e) in
-    rw all (front xs (drop left (x ∷ xs)) left (omega (arith, l)))
-closed (x ∷ xs) zero behind (suc at) e l = absurd (omega (arith, e))
-closed (x ∷ xs) (suc left) behind (suc at) e l = ap (λ r. x ∷ r) (closed xs left behind at (omega (arith, e)) (omega (arith, l)))
-
--- those behind a place move down by one
-pub few_left : {X : Type 0} (xs : List X) (left behind at : ℕ) → at + behind ≡ left → left < length xs → take left (paste xs at (drop (at + 1) xs) behind) ≡ remove (take (suc left) xs) at
-few_left xs left behind at e l =
-    let next : at + 1 ≡ suc at = omega arith in
-    rw (e, next) (closed xs left behind at e l)

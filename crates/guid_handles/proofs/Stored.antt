@@ -1,7 +1,7 @@
 -- What is asked of a handle table, by how it is kept; and what its changes keep.
-use Rattle.std.proofs.Common.{◌≡◌, ◌≢◌, ℕ, zero, suc, ◌+◌, ◌-◌, ◌<◌, ◌≤◌, ◌==◌, ◌&&◌, nat_eq, not, Bool, true, false, cond, List, [], ◌∷◌, ◌++◌, map, length, Option, Some, None, is_some, IfSome, inl, inr, refl, sym, ap, ◌∙◌, arith, append-nil, subst}
+use Rattle.std.proofs.Common.{◌≡◌, ◌≢◌, ℕ, zero, suc, ◌+◌, ◌-◌, ◌<◌, ◌≤◌, ◌==◌, nat_eq, not, Bool, true, false, List, [], ◌∷◌, ◌++◌, map, length, Option, Some, None, is_some, IfSome, inl, inr, refl, sym, ap, ◌∙◌, arith, append-nil, subst}
 use Rattle.std.specs.List.{filter, find, list_any, slice_get, AllByRecursion, AllZip}
-use Rattle.std.specs.Option.{option_map, option_and_then, option_to_list}
+use Rattle.std.specs.Option.{option_map, option_and_then}
 use Rattle.std.proofs.lemmas.Bool.{cases_Bool, cases_eq, ne_eqb, eq-eqb}
 use Rattle.std.proofs.lemmas.Bool.Decides.{eqb_tells}
 use Rattle.std.proofs.lemmas.Option.{same_Some}
@@ -9,16 +9,15 @@ use Rattle.std.proofs.lemmas.List.Elements.{same_from_all_zip}
 use Rattle.slab.specs.Slab.{IsSlotClone}
 use Rattle.guid_handles.specs.declared.records.Interface.{Interface}
 use Rattle.guid_handles.specs.declared.records.LiveHandle.{LiveHandle}
-use Rattle.guid_handles.specs.declared.records.Maker.{Maker}
+use Rattle.guid_handles.specs.declared.records.Pair.{Pair}
 use Rattle.guid_handles.specs.declared.records.Record.{Record}
 use Rattle.guid_handles.specs.HandleTables.{HandleTable, numbers, same_guid, is_on, is_at, is_live, has_number, carries, holders_of}
-use Rattle.guid_handles.specs.HandleChanges.{IsHandleTable, max_handles, max_in_table, is_taken, has_guid_twice, stamped, restamped, with_interfaces, with_handle, without_handle}
+use Rattle.guid_handles.specs.HandleChanges.{IsHandleTable, max_handles, max_in_table, is_taken, has_guid_twice, restamped, with_interfaces, with_handle, without_handle}
 use Rattle.guid_handles.specs.Sorting.{Ascending}
-use Rattle.guid_handles.specs.Indexes.{Row, Group, ChangesKeys, ChangesTurns, AreOn, AreAbsent, HaveSameTurns, lives, is_row_of, row_numbers, keys_of, keys_on, key_at, turns_of, with_turn, without_turn}
-use Rattle.guid_handles.specs.Slots.{at_key, at_keys, record_at, installed_until, with_stamp}
+use Rattle.guid_handles.specs.Indexes.{Row, Group, ChangesKeys, AreOn, AreAbsent, HaveSameStamps, SetsStamp, lives, is_row_of, row_numbers, keys_of, keys_on, stamp_at}
+use Rattle.guid_handles.specs.Slots.{at_key, at_keys, is_key_of, record_at, installed_until, with_stamp}
 use Rattle.guid_handles.specs.TableSteps.{IsAlone, MayHave, put_at}
-use Rattle.guid_handles.specs.TurnSteps.{moved_turn}
-use Rattle.guid_handles.specs.Stores.{AgreeOnKeys, AreApart, AreFiled, HaveInterfaces, IsStamped, IsStore, IsTable, table_of}
+use Rattle.guid_handles.specs.Stores.{AreApart, HaveInterfaces, IsStamped, IsStore, IsTable, key_at, table_of}
 use Rattle.guid_handles.proofs.SortedLists.{all_both, all_numbered, any_none, find_filter, find_push_other, those_among, filter_same, filter_whole, all_of, all_map, all_filter, any_found, any_last, any_member, filter_map_filter, filter_shorter, map_append, ascending_filter, find_none, found_none}
 use Rattle.guid_handles.proofs.Filters.{filter_append, filter_inside, filter_swap, passed}
 use Rattle.guid_handles.proofs.GuidOrder.{and_false, same_guid-refl}
@@ -27,9 +26,9 @@ use Rattle.guid_handles.proofs.ProperChanges.{fewer_handles, fewer_interfaces, m
 use Rattle.guid_handles.proofs.Found.{among_own, carried_live, found_one, live_is}
 use Rattle.guid_handles.proofs.Numbered.{find_lives, live_numbers}
 use Rattle.guid_handles.proofs.Slotted.{AreBelow, tagged, until_changed, until_later, until_less, until_more}
-use Rattle.guid_handles.proofs.Grouped.{is_same, none_of, some_map}
-use Rattle.guid_handles.proofs.InTurn.{turn_there, turns_below, found_alone, turns_changed, turns_free, turns_less, turns_more}
-use Rattle.guid_handles.proofs.Filed.{agreed, found_at, have_long, have_these, filed_changed, filed_less, filed_more, keyed_at, only_one}
+use Rattle.guid_handles.proofs.Grouped.{is_same, some_map}
+use Rattle.guid_handles.proofs.ByGuid.{found_alone, stamps_changed, stamps_less, stamps_more}
+use Rattle.guid_handles.proofs.Filed.{at_own, found_at, have_long, have_these, filed_changed, filed_less, filed_more, keyed_at, only_one}
 
 -- ---- tables
 
@@ -61,11 +60,11 @@ table_with_interfaces t n pairs s live absent once = record {
   below = below_more n t.last_stamp pairs t.interfaces s.below;
 }
 
-table_with_handle : (t : HandleTable) (maker : Option Maker) → IsTable t → length t.handles < t.places → IsTable (with_handle maker t)
+table_with_handle : (t : HandleTable) (maker : Option Pair) → IsTable t → length t.handles < t.places → IsTable (with_handle maker t)
 table_with_handle t maker s room = record { proper = one_more maker t s.proper room; apart = s.apart; below = s.below }
 
 -- the new handle is live
-pub new_is_live : (t : HandleTable) (maker : Option Maker) → is_live (with_handle maker t) (t.last_number + 1) ≡ true
+pub new_is_live : (t : HandleTable) (maker : Option Pair) → is_live (with_handle maker t) (t.last_number + 1) ≡ true
 new_is_live t maker = any_found (has_number (t.last_number + 1)) (t.handles ++ record { number = t.last_number + 1; maker = maker } ∷ [])
     ∙ any_last (has_number (t.last_number + 1)) t.handles (record { number = t.last_number + 1; maker = maker }) (eq-eqb (t.last_number + 1) (t.last_number + 1) refl)
 
@@ -142,7 +141,7 @@ none_is_on t h =
     let l : (0 < i.handle) × (i.handle ≤ t.last_number) = any_member i.handle (numbers t) (λ m. (0 < m) × (m ≤ t.last_number)) h.given k in
     ne_eqb i.handle (t.last_number + 1) (λ e. omega (arith, l.1, e))) t.interfaces h.on_live)
 
-pub lower_numbers : (t : HandleTable) (maker : Option Maker) → IsHandleTable t → AllByRecursion (λ n. n < t.last_number + 1) (filter (λ n. not (n == t.last_number + 1)) (numbers (with_handle maker t)))
+pub lower_numbers : (t : HandleTable) (maker : Option Pair) → IsHandleTable t → AllByRecursion (λ n. n < t.last_number + 1) (filter (λ n. not (n == t.last_number + 1)) (numbers (with_handle maker t)))
 lower_numbers t maker h =
     let own : (t.last_number + 1 == t.last_number + 1) ≡ true = eq-eqb (t.last_number + 1) (t.last_number + 1) refl in
     rw (map_append (λ (x : LiveHandle). x.number) t.handles (record { number = t.last_number + 1; maker = maker } ∷ []), filter_append (λ n. not (n == t.last_number + 1)) (numbers t) ((t.last_number + 1) ∷ []))
@@ -150,7 +149,7 @@ lower_numbers t maker h =
     (all_filter (λ n. n < t.last_number + 1) (λ n. not (n == t.last_number + 1)) (numbers t)
     (all_map (λ m. (0 < m) × (m ≤ t.last_number)) (λ m. m < t.last_number + 1) (λ m k. omega (arith, k.1)) (numbers t) h.given))))
 
-pub unmade_again : (t : HandleTable) (maker : Option Maker) → IsHandleTable t → record (without_handle (t.last_number + 1) (with_handle maker t)) { last_number = t.last_number + 1 - 1 } ≡ t
+pub unmade_again : (t : HandleTable) (maker : Option Pair) → IsHandleTable t → record (without_handle (t.last_number + 1) (with_handle maker t)) { last_number = t.last_number + 1 - 1 } ≡ t
 unmade_again t maker h =
     let own : (t.last_number + 1 == t.last_number + 1) ≡ true = eq-eqb (t.last_number + 1) (t.last_number + 1) refl in
     let handles : filter (λ l. not (has_number (t.last_number + 1) l)) (with_handle maker t).handles ≡ t.handles =
@@ -162,19 +161,6 @@ unmade_again t maker h =
     rw (handles, none_goes (t.last_number + 1) t.interfaces (none_is_on t h), number) refl
 
 -- ---- slots
-
--- a key that is returned is that of an interface that is found
-key_returned : (slots : List (Option Record)) (p : Interface → Bool) (is : List Interface) (o : Option ℕ) → HaveInterfaces slots (option_to_list o) (filter p is) → is_some o ≡ is_some (find p is)
-key_returned slots p [] None h = refl
-key_returned slots p [] (Some k) h = absurd h
-key_returned slots p (x ∷ xs) o h = elim (cases_Bool (p x)) [
-  | inl t ↦ rw t (one o (rw t at h))
-  | inr f ↦ rw f (key_returned slots p xs o (rw f at h))
-]
-  where
-    one : (k : Option ℕ) → HaveInterfaces slots (option_to_list k) (x ∷ filter p xs) → is_some k ≡ true
-    one None b = absurd b
-    one (Some k) b = refl
 
 changed_slot : (n : ℕ) (guid : List ℕ) (value stamp : ℕ) (o : Option Record) → ((r : Record) → o ≡ Some r → is_at n guid r.interface ≡ true)
     → tagged (restamped n guid value stamp) o ≡ tagged (λ i. i) (option_map (with_stamp value stamp) o)
@@ -274,24 +260,21 @@ empty_store places least most = record {
     apart = tt;
     below = tt;
   };
-  filed = record { by_handle = λ n. tt; by_guid = λ n guid. tt; in_group = λ key i e. absurd cc };
-  turns = λ guid n stamp. refl;
+  filed = record { by_handle = λ n. tt; in_row = λ key i e. absurd cc };
+  stamps = λ guid n. refl;
   stamped = λ key r e. absurd cc;
 }
 
 -- ---- what is asked
 
 module _ (rows : List Row) (slots : List (Option Record)) (groups : List Group) (number stamp places : ℕ) (s : IsStore rows slots groups number stamp places) where
-  -- the interface at the key in its group is the one that is asked for
-  pub stored_at : (n : ℕ) (guid : List ℕ) → find (is_at n guid) (installed_until stamp slots) ≡ option_and_then (at_key slots) (key_at groups guid n)
-  stored_at n guid = found_at slots (is_at n guid) (installed_until stamp slots) (key_at groups guid n) (s.filed.by_guid n guid)
-
-  pub keys_agree : AgreeOnKeys slots rows groups
-  keys_agree = agreed (installed_until stamp slots) slots rows groups s.filed
+  -- the interface at its key is the one that is asked for
+  pub stored_at : (n : ℕ) (guid : List ℕ) → find (is_at n guid) (installed_until stamp slots) ≡ option_and_then (at_key slots) (key_at slots rows guid n)
+  stored_at n guid = found_at (installed_until stamp slots) slots rows s.filed n guid
 
   -- a record in a slot is among the interfaces
   pub slot_found : (key : ℕ) (i : Interface) → at_key slots key ≡ Some i → find (is_at i.handle i.guid) (installed_until stamp slots) ≡ Some i
-  slot_found key i e = stored_at i.handle i.guid ∙ ap (option_and_then (at_key slots)) (s.filed.in_group key i e) ∙ e
+  slot_found key i e = stored_at i.handle i.guid ∙ ap (option_and_then (at_key slots)) (s.filed.in_row key i e) ∙ e
 
   pub slots_below : AreBelow stamp slots
   slots_below j r e =
@@ -300,15 +283,25 @@ module _ (rows : List Row) (slots : List (Option Record)) (groups : List Group) 
       omega (arith, l, (s.stamped j r e).1)
 
   -- an interface that is not there has no key
-  pub unkeyed : (n : ℕ) (guid : List ℕ) → find (is_at n guid) (installed_until stamp slots) ≡ None → key_at groups guid n ≡ None
-  unkeyed n guid e = none_of (key_at groups guid n) (key_returned slots (is_at n guid) (installed_until stamp slots) (key_at groups guid n) (s.filed.by_guid n guid) ∙ ap is_some e)
+  pub unkeyed : (n : ℕ) (guid : List ℕ) → find (is_at n guid) (installed_until stamp slots) ≡ None → key_at slots rows guid n ≡ None
+  unkeyed n guid e = none (key_at slots rows guid n) refl
+    where
+      none : (o : Option ℕ) → key_at slots rows guid n ≡ o → o ≡ None
+      none None k = refl
+      none (Some key) k =
+          let f = at_own (installed_until stamp slots) slots rows n guid key s.filed k in
+          let w : Some f.0 ≡ None = sym (stored_at n guid ∙ ap (option_and_then (at_key slots)) k ∙ f.1) ∙ e in cc
 
-  -- the handles of a GUID are those that have a key in its group
-  pub by_guid : (guid hs : List ℕ) → Ascending (λ a b. a < b) hs → ((n : ℕ) → list_any (λ h. h == n) hs ≡ is_some (key_at groups guid n)) → hs ≡ holders_of (table_of rows slots number stamp places) guid
+  -- nor has it a stamp
+  pub unstamped : (n : ℕ) (guid : List ℕ) → find (is_at n guid) (installed_until stamp slots) ≡ None → stamp_at groups guid n ≡ None
+  unstamped n guid e = s.stamps guid n ∙ ap (option_map (λ (i : Interface). i.stamp)) e
+
+  -- the handles of a GUID are those that have a stamp in its group
+  pub by_guid : (guid hs : List ℕ) → Ascending (λ a b. a < b) hs → ((n : ℕ) → list_any (λ h. h == n) hs ≡ is_some (stamp_at groups guid n)) → hs ≡ holders_of (table_of rows slots number stamp places) guid
   by_guid guid hs ascending those =
       let t : HandleTable = table_of rows slots number stamp places in
       let returned : (n : ℕ) → list_any (λ h. h == n) hs ≡ carries t guid n =
-      λ n. those n ∙ key_returned slots (is_at n guid) (installed_until stamp slots) (key_at groups guid n) (s.filed.by_guid n guid) in
+      λ n. those n ∙ ap is_some (s.stamps guid n) ∙ some_map (λ (i : Interface). i.stamp) (find (is_at n guid) (installed_until stamp slots)) in
       sym (filter_same (carries t guid) (λ n. list_any (λ h. h == n) hs) (numbers t) (all_of (λ n. carries t guid n ≡ list_any (λ h. h == n) hs) (λ n. sym (returned n)) (numbers t))
       ∙ those_among (numbers t) hs s.table.proper.ascending ascending
       (all_map (λ h. list_any (λ k. nat_eq k h) hs ≡ true) (λ h. list_any (λ n. nat_eq n h) (numbers t) ≡ true)
@@ -333,84 +326,70 @@ module _ (rows : List Row) (slots : List (Option Record)) (groups : List Group) 
   at_others new key others j d = ap (option_map (λ r. r.interface)) (others j d)
 
   -- an interface comes
-  pub stored_more : (rs : List Row) (new : List (Option Record)) (gs : List Group) (n : ℕ) (guid : List ℕ) (value key at : ℕ)
+  pub stored_more : (rs : List Row) (new : List (Option Record)) (gs : List Group) (n : ℕ) (guid : List ℕ) (value key : ℕ)
       → is_live (table_of rows slots number stamp places) n ≡ true → find (is_at n guid) (installed_until stamp slots) ≡ None
       → record_at slots key ≡ None
-      → record_at new key ≡ Some (record { interface = record { handle = n; guid = guid; value = value; stamp = stamp + 1 }; installed = stamp + 1; turn_place = at })
+      → record_at new key ≡ Some (record { interface = record { handle = n; guid = guid; value = value; stamp = stamp + 1 }; installed = stamp + 1 })
       → ((j : ℕ) → j ≢ key → record_at new j ≡ record_at slots j)
       → ChangesKeys n (λ ks. ks ++ key ∷ []) rows rs
-      → ((k : List ℕ) (m : ℕ) → key_at gs k m ≡ cond ((n == m) && same_guid guid k) (Some key) (key_at groups k m))
-      → ChangesTurns guid (with_turn n (stamp + 1)) groups gs
+      → SetsStamp guid n (Some (stamp + 1)) groups gs
       → (table_of rs new number (stamp + 1) places ≡ with_interfaces n ((guid, value) ∷ []) (table_of rows slots number stamp places)) × IsStore rs new gs number (stamp + 1) places
-  stored_more rs new gs n guid value key at live absent none there others c g t =
+  stored_more rs new gs n guid value key live absent none there others c g =
       let i : Interface = record { handle = n; guid = guid; value = value; stamp = stamp + 1 } in
       let more : installed_until (stamp + 1) new ≡ installed_until stamp slots ++ i ∷ [] =
-      until_more stamp key slots new (record { interface = i; installed = stamp + 1; turn_place = at }) slots_below refl none there others in
+      until_more stamp key slots new (record { interface = i; installed = stamp + 1 }) slots_below refl none there others in
       let same : table_of rs new number (stamp + 1) places ≡ with_interfaces n ((guid, value) ∷ []) (table_of rows slots number stamp places) = rw (c.lives, more) refl in (
         same,
         record {
           table = subst IsTable (sym same) (table_with_interfaces (table_of rows slots number stamp places) n ((guid, value) ∷ []) s.table live (absent, tt) refl);
-          filed = rw more (filed_more (installed_until stamp slots) slots new rows rs groups gs key i (ap (option_map (λ r. r.interface)) none) (ap (option_map (λ r. r.interface)) there)
-              (at_others new key others) c (unkeyed n guid absent) g s.filed);
-          turns = rw more (turns_more (installed_until stamp slots) groups gs i t s.turns);
+          filed = rw more (filed_more (installed_until stamp slots) slots new rows rs key i (ap (option_map (λ r. r.interface)) none) (ap (option_map (λ r. r.interface)) there)
+              (at_others new key others) c (unkeyed n guid absent) s.filed);
+          stamps = rw more (stamps_more (installed_until stamp slots) groups gs i absent g s.stamps);
           stamped = λ j r e. elim (cases_eq j key) [
-            | inl w ↦ subst IsStamped (same_Some (record { interface = i; installed = stamp + 1; turn_place = at }) r (sym there ∙ ap (record_at new) (sym w) ∙ e)) (omega arith, omega arith)
+            | inl w ↦ subst IsStamped (same_Some (record { interface = i; installed = stamp + 1 }) r (sym there ∙ ap (record_at new) (sym w) ∙ e)) (omega arith, omega arith)
             | inr d ↦ s.stamped j r (sym (others j d) ∙ e)
           ];
         },
       )
 
-  -- the interface at a key is of the GUID on the handle in whose group the key is, and no other is
-  own_key : (n : ℕ) (guid : List ℕ) (key : ℕ) → key_at groups guid n ≡ Some key → (r : Record) → record_at slots key ≡ Some r → is_at n guid r.interface ≡ true
-  own_key n guid key there r e = keyed_at (installed_until stamp slots) slots rows groups n guid key s.filed there r.interface (ap (option_map (λ (x : Record). x.interface)) e)
+  -- the interface at the key of a GUID on a handle is of it, and no other is
+  own_key : (n : ℕ) (guid : List ℕ) (key : ℕ) → key_at slots rows guid n ≡ Some key → (r : Record) → record_at slots key ≡ Some r → is_at n guid r.interface ≡ true
+  own_key n guid key there r e = keyed_at (installed_until stamp slots) slots rows n guid key s.filed there r.interface (ap (option_map (λ (x : Record). x.interface)) e)
 
-  other_key : (n : ℕ) (guid : List ℕ) (key : ℕ) → key_at groups guid n ≡ Some key → (j : ℕ) (r : Record) → j ≢ key → record_at slots j ≡ Some r → is_at n guid r.interface ≡ false
-  other_key n guid key there j r d e = only_one (installed_until stamp slots) slots rows groups n guid key s.filed there j r.interface d (ap (option_map (λ (x : Record). x.interface)) e)
+  other_key : (n : ℕ) (guid : List ℕ) (key : ℕ) → key_at slots rows guid n ≡ Some key → (j : ℕ) (r : Record) → j ≢ key → record_at slots j ≡ Some r → is_at n guid r.interface ≡ false
+  other_key n guid key there j r d e = only_one (installed_until stamp slots) slots rows n guid key s.filed there j r.interface d (ap (option_map (λ (x : Record). x.interface)) e)
 
   -- the interface at a key is found by its GUID and its handle
-  pub keyed_record : (n : ℕ) (guid : List ℕ) (key : ℕ) → key_at groups guid n ≡ Some key → (r : Record) → record_at slots key ≡ Some r → find (is_at n guid) (installed_until stamp slots) ≡ Some r.interface
+  pub keyed_record : (n : ℕ) (guid : List ℕ) (key : ℕ) → key_at slots rows guid n ≡ Some key → (r : Record) → record_at slots key ≡ Some r → find (is_at n guid) (installed_until stamp slots) ≡ Some r.interface
   keyed_record n guid key there r e = stored_at n guid ∙ ap (option_and_then (at_key slots)) there ∙ ap (option_map (λ (x : Record). x.interface)) e
 
   -- a key is that of a record
-  recorded : (n : ℕ) (guid : List ℕ) (key : ℕ) → key_at groups guid n ≡ Some key → (r : Record) × (record_at slots key ≡ Some r)
-  recorded n guid key there = first (filter (is_at n guid) (installed_until stamp slots)) (rw there at (s.filed.by_guid n guid))
+  recorded : (n : ℕ) (guid : List ℕ) (key : ℕ) → key_at slots rows guid n ≡ Some key → (r : Record) × (record_at slots key ≡ Some r)
+  recorded n guid key there =
+      let f = at_own (installed_until stamp slots) slots rows n guid key s.filed there in
+      of_interface (record_at slots key) f.0 f.1
     where
       of_interface : (o : Option Record) (i : Interface) → option_map (λ r. r.interface) o ≡ Some i → (r : Record) × (o ≡ Some r)
       of_interface None i e = absurd cc
       of_interface (Some r) i e = (r, refl)
 
-      first : (is : List Interface) → HaveInterfaces slots (key ∷ []) is → (r : Record) × (record_at slots key ≡ Some r)
-      first [] h = absurd h
-      first (i ∷ is) h = of_interface (record_at slots key) i h.0
-
-  pub is_recorded : (n : ℕ) (guid : List ℕ) (key : ℕ) → key_at groups guid n ≡ Some key → is_some (record_at slots key) ≡ true
+  pub is_recorded : (n : ℕ) (guid : List ℕ) (key : ℕ) → key_at slots rows guid n ≡ Some key → is_some (record_at slots key) ≡ true
   is_recorded n guid key there = ap is_some (recorded n guid key there).1
 
-  -- the stamp of the interface at a key
-  stamp_at : (key : ℕ) (r : Record) (own : ℕ) → record_at slots key ≡ Some r → option_map (λ x. x.interface.stamp) (record_at slots key) ≡ Some own → own ≡ r.interface.stamp
-  stamp_at key r own e k = same_Some own r.interface.stamp (sym k ∙ ap (option_map (λ (x : Record). x.interface.stamp)) e)
-
-  -- the turns of a GUID are not above the last stamp
-  pub turned_below : (guid : List ℕ) → AllByRecursion (λ t. t.stamp < stamp + 1) (turns_of groups guid)
-  turned_below guid = turns_below (installed_until stamp slots) groups stamp s.turns s.table.below guid
-
-  -- the interface at a key has a turn
-  pub turn_of_key : (n : ℕ) (guid : List ℕ) (key own : ℕ) → key_at groups guid n ≡ Some key → option_map (λ x. x.interface.stamp) (record_at slots key) ≡ Some own
-      → list_any (λ t. t.stamp == own) (turns_of groups guid) ≡ true
-  turn_of_key n guid key own there k =
+  -- and the interface has a stamp
+  pub has_stamp : (n : ℕ) (guid : List ℕ) (key : ℕ) → key_at slots rows guid n ≡ Some key → is_some (stamp_at groups guid n) ≡ true
+  has_stamp n guid key there =
       let r = recorded n guid key there in
-      rw (stamp_at key r.0 own r.1 k) (turn_there (installed_until stamp slots) groups n guid r.0.interface s.turns (keyed_record n guid key there r.0 r.1) (own_key n guid key there r.0 r.1))
+      ap is_some (s.stamps guid n ∙ ap (option_map (λ (i : Interface). i.stamp)) (keyed_record n guid key there r.0 r.1))
 
   -- an interface goes
-  pub stored_less : (rs : List Row) (new : List (Option Record)) (gs : List Group) (n : ℕ) (guid : List ℕ) (key own : ℕ) → key_at groups guid n ≡ Some key
-      → option_map (λ r. r.interface.stamp) (record_at slots key) ≡ Some own → record_at new key ≡ None
+  pub stored_less : (rs : List Row) (new : List (Option Record)) (gs : List Group) (n : ℕ) (guid : List ℕ) (key : ℕ) → key_at slots rows guid n ≡ Some key
+      → record_at new key ≡ None
       → ((j : ℕ) → j ≢ key → record_at new j ≡ record_at slots j)
       → ChangesKeys n (filter (λ k. not (k == key))) rows rs
-      → ((k : List ℕ) (m : ℕ) → key_at gs k m ≡ cond ((n == m) && same_guid guid k) None (key_at groups k m))
-      → ChangesTurns guid (without_turn own) groups gs
+      → SetsStamp guid n None groups gs
       → (table_of rs new number stamp places ≡ record (table_of rows slots number stamp places) { interfaces = filter (λ i. not (is_at n guid i)) (installed_until stamp slots) }) × IsStore rs new gs number stamp places
-  stored_less rs new gs n guid key own there stamped none others c g t =
-      let r = recorded n guid key there in
+  stored_less rs new gs n guid key there none others c g =
       let q : Interface → Bool = λ i. not (is_at n guid i) in
       let less : installed_until stamp new ≡ filter q (installed_until stamp slots) =
       until_less q stamp key slots new (λ r e. rw (own_key n guid key there r e) refl) (λ j r d e. rw (other_key n guid key there j r d e) refl) none others in
@@ -418,8 +397,8 @@ module _ (rows : List Row) (slots : List (Option Record)) (groups : List Group) 
         same,
         record {
           table = subst IsTable (sym same) (table_without_interface (table_of rows slots number stamp places) n guid s.table);
-          filed = rw less (filed_less (installed_until stamp slots) slots new rows rs groups gs n guid key there (ap (option_map (λ r. r.interface)) none) (at_others new key others) c g s.filed);
-          turns = rw less (turns_less (installed_until stamp slots) groups gs n guid r.0.interface s.table.apart (keyed_record n guid key there r.0 r.1) (rw (stamp_at key r.0 own r.1 stamped) at t) s.turns);
+          filed = rw less (filed_less (installed_until stamp slots) slots new rows rs n guid key there (ap (option_map (λ r. r.interface)) none) (at_others new key others) c s.filed);
+          stamps = rw less (stamps_less (installed_until stamp slots) groups gs n guid g s.stamps);
           stamped = λ j r e. elim (cases_eq j key) [
             | inl w ↦ let z : Some r ≡ None = sym e ∙ ap (record_at new) w ∙ none in cc
             | inr d ↦ s.stamped j r (sym (others j d) ∙ e)
@@ -428,21 +407,17 @@ module _ (rows : List Row) (slots : List (Option Record)) (groups : List Group) 
       )
 
   -- where no interface is of the GUID on the handle none goes
-  pub stored_none : (n : ℕ) (guid : List ℕ) → key_at groups guid n ≡ None → installed_until stamp slots ≡ filter (λ i. not (is_at n guid i)) (installed_until stamp slots)
+  pub stored_none : (n : ℕ) (guid : List ℕ) → key_at slots rows guid n ≡ None → installed_until stamp slots ≡ filter (λ i. not (is_at n guid i)) (installed_until stamp slots)
   stored_none n guid none =
       sym (filter_whole (is_at n guid) (installed_until stamp slots) (found_none (is_at n guid) (installed_until stamp slots) (stored_at n guid ∙ ap (option_and_then (at_key slots)) none)))
 
-  -- groups with the same keys
-  filed_same : (is : List Interface) (new : List (Option Record)) (gs : List Group) → ((k : List ℕ) (n : ℕ) → key_at gs k n ≡ key_at groups k n) → AreFiled is new rows groups → AreFiled is new rows gs
-  filed_same is new gs g h = record { by_handle = h.by_handle; by_guid = λ n k. rw (g k n) (h.by_guid n k); in_group = λ key i e. g i.guid i.handle ∙ h.in_group key i e }
-
   -- an interface takes a value and a stamp
-  pub stored_put : (new : List (Option Record)) (gs : List Group) (n : ℕ) (guid : List ℕ) (value to key before : ℕ) → AllByRecursion (MayHave n guid to) (installed_until stamp slots) → to ≤ stamp
-      → key_at groups guid n ≡ Some key → option_map (λ r. r.interface.stamp) (record_at slots key) ≡ Some before
+  pub stored_put : (new : List (Option Record)) (gs : List Group) (n : ℕ) (guid : List ℕ) (value to key : ℕ) → AllByRecursion (MayHave n guid to) (installed_until stamp slots) → to ≤ stamp
+      → key_at slots rows guid n ≡ Some key
       → record_at new key ≡ option_map (with_stamp value to) (record_at slots key) → ((j : ℕ) → j ≢ key → record_at new j ≡ record_at slots j)
-      → ((k : List ℕ) (m : ℕ) → key_at gs k m ≡ key_at groups k m) → ChangesTurns guid (moved_turn n before to) groups gs
+      → SetsStamp guid n (Some to) groups gs
       → (table_of rows new number stamp places ≡ put_at n guid value to (table_of rows slots number stamp places)) × IsStore rows new gs number stamp places
-  stored_put new gs n guid value to key before may given there stamped own others g t =
+  stored_put new gs n guid value to key may given there own others g =
       let x = recorded n guid key there in
       let f : Interface → Interface = restamped n guid value to in
       let kept : (j : ℕ) (r : Record) → record_at new j ≡ Some r → (p : Record) × (record_at slots j ≡ Some p) × (p.installed ≡ r.installed) × (p.interface.stamp ≤ r.interface.stamp) =
@@ -457,12 +432,11 @@ module _ (rows : List Row) (slots : List (Option Record)) (groups : List Group) 
         same,
         record {
           table = subst IsTable (sym same) (table_put (table_of rows slots number stamp places) n guid value to may given s.table);
-          filed = filed_same (installed_until stamp new) new gs g (rw changed (filed_changed (installed_until stamp slots) slots new rows groups n guid value to key there
+          filed = rw changed (filed_changed (installed_until stamp slots) slots new rows n guid value to key there
               (λ y e. ap (option_map (λ r. r.interface)) own ∙ changed_there n guid value to (record_at slots key) (λ r k. own_key n guid key there r k) y e)
               (λ y e. new_there n guid value to (record_at slots key) (λ r k. own_key n guid key there r k) y (sym (ap (option_map (λ r. r.interface)) own) ∙ e))
-              (at_others new key others) s.filed));
-          turns = rw changed (turns_changed (installed_until stamp slots) groups gs n guid value to x.0.interface s.table.apart (keyed_record n guid key there x.0 x.1) (own_key n guid key there x.0 x.1)
-              (rw (stamp_at key x.0 before x.1 stamped) at t) s.turns);
+              (at_others new key others) s.filed);
+          stamps = rw changed (stamps_changed (installed_until stamp slots) groups gs n guid value to x.0.interface (keyed_record n guid key there x.0 x.1) g s.stamps);
           stamped = λ j r e. let k = kept j r e in let b = s.stamped j k.0 k.1 in (omega (arith, b.0, k.2), omega (arith, b.1, k.2, k.3));
         },
       )
@@ -470,14 +444,6 @@ module _ (rows : List Row) (slots : List (Option Record)) (groups : List Group) 
       not_above : (r : Record) → record_at slots key ≡ Some r → r.interface.stamp ≤ to
       not_above r e =
           (found_one (MayHave n guid to) (is_at n guid) (installed_until stamp slots) r.interface may (keyed_record n guid key there r e)).1.0 (own_key n guid key there r e)
-
-  -- the turns of a GUID, but that of the interface at a key, have other stamps than that may have
-  pub turns_left : (n : ℕ) (guid : List ℕ) (key own to : ℕ) → AllByRecursion (MayHave n guid to) (installed_until stamp slots) → key_at groups guid n ≡ Some key
-      → option_map (λ x. x.interface.stamp) (record_at slots key) ≡ Some own → AllByRecursion (λ t. (t.stamp == to) ≡ false) (without_turn own (turns_of groups guid))
-  turns_left n guid key own to may there k =
-      let r = recorded n guid key there in
-      rw (stamp_at key r.0 own r.1 k)
-      (turns_free (installed_until stamp slots) groups n guid to r.0.interface s.turns (found_alone n guid r.0.interface (installed_until stamp slots) s.table.apart (keyed_record n guid key there r.0 r.1)) may)
 
   -- the interface of a GUID on a handle, if there is one
   pub alone_if : (n : ℕ) (guid : List ℕ) (o : Option Interface) → o ≡ find (is_at n guid) (installed_until stamp slots) → IfSome o (λ x. AllByRecursion (IsAlone n guid x) (installed_until stamp slots))
@@ -500,7 +466,7 @@ module _ (rows : List Row) (slots : List (Option Record)) (groups : List Group) 
             below = rw same (all_map (λ i. i.stamp ≤ stamp) (λ i. i.stamp ≤ stamp + 1) (λ i l. omega (arith, l)) (installed_until stamp slots) s.table.below);
           };
           filed = rw same s.filed;
-          turns = rw same s.turns;
+          stamps = rw same s.stamps;
           stamped = s.stamped;
         },
       )
@@ -516,7 +482,7 @@ module _ (rows : List Row) (slots : List (Option Record)) (groups : List Group) 
   live_row n l = sym (ap is_some (find_lives n rows) ∙ some_map (λ r. r.live) (find (is_row_of n) rows)) ∙ l
 
   -- a handle comes
-  pub stored_handle : (maker : Option Maker) → length (lives rows) < places
+  pub stored_handle : (maker : Option Pair) → length (lives rows) < places
       → (table_of (rows ++ record { live = record { number = number + 1; maker = maker }; keys = [] } ∷ []) slots (number + 1) stamp places ≡ with_handle maker (table_of rows slots number stamp places))
       × IsStore (rows ++ record { live = record { number = number + 1; maker = maker }; keys = [] } ∷ []) slots groups (number + 1) stamp places
   stored_handle maker room =
@@ -526,8 +492,8 @@ module _ (rows : List Row) (slots : List (Option Record)) (groups : List Group) 
         same,
         record {
           table = subst IsTable (sym same) (table_with_handle (table_of rows slots number stamp places) maker s.table room);
-          filed = record { by_handle = λ n. rw (keys_push rows live n) (s.filed.by_handle n); by_guid = s.filed.by_guid; in_group = s.filed.in_group };
-          turns = s.turns;
+          filed = record { by_handle = λ n. rw (keys_push rows live n) (s.filed.by_handle n); in_row = λ key i e. ap (find (is_key_of slots i.guid)) (keys_push rows live i.handle) ∙ s.filed.in_row key i e };
+          stamps = s.stamps;
           stamped = s.stamped;
         },
       )
@@ -555,8 +521,11 @@ module _ (rows : List Row) (slots : List (Option Record)) (groups : List Group) 
         same,
         record {
           table = subst IsTable (sym same) (table_without_handle (table_of rows slots number stamp places) n s.table);
-          filed = record { by_handle = λ m. rw (keys_without rows n m (bare_keys n bare)) (s.filed.by_handle m); by_guid = s.filed.by_guid; in_group = s.filed.in_group };
-          turns = s.turns;
+          filed = record {
+            by_handle = λ m. rw (keys_without rows n m (bare_keys n bare)) (s.filed.by_handle m);
+            in_row = λ key i e. ap (find (is_key_of slots i.guid)) (keys_without rows n i.handle (bare_keys n bare)) ∙ s.filed.in_row key i e;
+          };
+          stamps = s.stamps;
           stamped = s.stamped;
         },
       )
@@ -578,7 +547,7 @@ module _ (rows : List Row) (slots : List (Option Record)) (groups : List Group) 
       below = s.table.below;
     };
     filed = s.filed;
-    turns = s.turns;
+    stamps = s.stamps;
     stamped = s.stamped;
   }
 
@@ -599,7 +568,7 @@ module _ (rows : List Row) (slots : List (Option Record)) (groups : List Group) 
             below = rw same (all_map (λ i. i.stamp < stamp) (λ i. i.stamp ≤ last) (λ i l. omega (arith, l, e)) (installed_until stamp slots) below);
           };
           filed = rw same s.filed;
-          turns = rw same s.turns;
+          stamps = rw same s.stamps;
           stamped = s.stamped;
         },
       )
@@ -623,17 +592,17 @@ module _ (rows : List Row) (slots : List (Option Record)) (groups : List Group) 
       let back : table_of rows slots number (stamp - 1) places ≡ record (table_of rows slots number stamp places) { last_stamp = stamp - 1 } = rw b.0 refl in
       (back ∙ ap (λ (x : HandleTable). record x { last_stamp = x.last_stamp - 1 }) e, b.1)
 
-  -- groups with the same keys and turns
-  pub stored_same : (gs : List Group) → ((k : List ℕ) (n : ℕ) → key_at gs k n ≡ key_at groups k n) → HaveSameTurns groups gs → IsStore rows slots gs number stamp places
-  stored_same gs g t = record {
+  -- groups with the same stamps
+  pub stored_same : (gs : List Group) → HaveSameStamps groups gs → IsStore rows slots gs number stamp places
+  stored_same gs g = record {
     table = s.table;
-    filed = filed_same (installed_until stamp slots) slots gs g s.filed;
-    turns = λ guid n st. rw (t guid) (s.turns guid n st);
+    filed = s.filed;
+    stamps = λ guid n. g guid n ∙ s.stamps guid n;
     stamped = s.stamped;
   }
 
-  pub stored_kept : (n : ℕ) (guid : List ℕ) → key_at groups guid n ≡ None → table_of rows slots number stamp places ≡ record (table_of rows slots number stamp places) { interfaces = filter (λ i. not (is_at n guid i)) (installed_until stamp slots) }
+  pub stored_kept : (n : ℕ) (guid : List ℕ) → key_at slots rows guid n ≡ None → table_of rows slots number stamp places ≡ record (table_of rows slots number stamp places) { interfaces = filter (λ i. not (is_at n guid i)) (installed_until stamp slots) }
   stored_kept n guid none = ap (λ is. record (table_of rows slots number stamp places) { interfaces = is }) (stored_none n guid none)
 
-  pub uncarried : (n : ℕ) (guid : List ℕ) → key_at groups guid n ≡ None → carries (table_of rows slots number stamp places) guid n ≡ true → ⊥
+  pub uncarried : (n : ℕ) (guid : List ℕ) → key_at slots rows guid n ≡ None → carries (table_of rows slots number stamp places) guid n ≡ true → ⊥
   uncarried n guid none h = let w : false ≡ true = sym (ap is_some (stored_at n guid ∙ ap (option_and_then (at_key slots)) none)) ∙ h in cc

@@ -126,7 +126,7 @@ module _ (rows : List Row) (slots : List (Option Record)) (groups : List Group) 
             below = rw same older;
           };
           filed = rw same s.filed;
-          turns = rw same s.turns;
+          stamps = rw same s.stamps;
           stamped = s.stamped;
         },
       )

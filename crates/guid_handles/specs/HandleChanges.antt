@@ -4,7 +4,7 @@ use Rattle.std.specs.List.{filter, list_any, AllByRecursion}
 use Rattle.page_ranges.specs.declared.statuses.Status.{Status}
 use Rattle.page_ranges.specs.declared.statuses.Status.TheVariants.{InvalidParameter, OutOfResources}
 use Rattle.guid_handles.specs.declared.records.Interface.{Interface}
-use Rattle.guid_handles.specs.declared.records.Maker.{Maker}
+use Rattle.guid_handles.specs.declared.records.Pair.{Pair}
 use Rattle.guid_handles.specs.HandleTables.{HandleTable, numbers, same_guid, has_number, is_on, is_at, is_live, carries}
 use Rattle.guid_handles.specs.Sorting.{Ascending}
 use Rattle.guid_handles.specs.Indexes.{AreOn}
@@ -52,7 +52,7 @@ with_interfaces n pairs t = record t {
 }
 
 -- a new handle has the number after the last
-abbrev pub with_handle : Option Maker → HandleTable → HandleTable
+abbrev pub with_handle : Option Pair → HandleTable → HandleTable
 with_handle maker t = record t {
   handles = t.handles ++ record { number = t.last_number + 1; maker = maker } ∷ [];
   last_number = t.last_number + 1;

@@ -5,7 +5,7 @@ use Rattle.std.specs.List.{filter, find}
 use Rattle.std.specs.Option.{option_map, option_and_then}
 use Rattle.guid_handles.specs.declared.records.LiveHandle.{LiveHandle}
 use Rattle.guid_handles.specs.declared.records.Interface.{Interface}
-use Rattle.guid_handles.specs.declared.records.Maker.{Maker}
+use Rattle.guid_handles.specs.declared.records.Pair.{Pair}
 
 -- The live handles by ascending number, the interfaces in order of installation, the last number
 -- and the last stamp given, and for how many handles there are places.
@@ -41,7 +41,7 @@ abbrev pub is_live : HandleTable → ℕ → Bool
 is_live t n = is_some (find (has_number n) t.handles)
 
 -- the maker of a handle, if it is live and has one
-abbrev pub maker_of : HandleTable → ℕ → Option Maker
+abbrev pub maker_of : HandleTable → ℕ → Option Pair
 maker_of t n = option_and_then (λ h. h.maker) (find (has_number n) t.handles)
 
 -- the interface of a GUID on a handle

@@ -1,21 +1,20 @@
--- The keys of interfaces: by handle in rows, and by GUID in groups.
-use Rattle.std.specs.Prelude.{◌≡◌, ℕ, ◌<◌, ◌==◌, ◌&&◌, nat_eq, Bool, true, not, cond, List, [], ◌∷◌, ◌++◌, map, length, Option, None, Some, is_some}
-use Rattle.std.specs.List.{filter, find, list_any, AllByRecursion, slice_get}
+-- The keys of interfaces by handle in rows, and their stamps by GUID in groups.
+use Rattle.std.specs.Prelude.{◌≡◌, ℕ, ◌<◌, ◌≤◌, ◌==◌, ◌&&◌, nat_eq, nat_lt, Bool, true, false, not, cond, List, [], ◌∷◌, map, length, Option, None, Some, is_some}
+use Rattle.std.specs.List.{find, list_any, AllByRecursion, slice_get}
 use Rattle.std.specs.Option.{option_and_then}
 use Rattle.std.specs.declared.cmp.Ordering.TheVariants.{Less}
 use Rattle.std.specs.Ordering.{nat_cmp, is_lt}
 use Rattle.std.specs.Cmp.Lexicographic.{slice_cmp}
 use Rattle.guid_handles.specs.declared.records.Interface.{Interface}
 use Rattle.guid_handles.specs.declared.records.LiveHandle.{LiveHandle}
-use Rattle.guid_handles.specs.declared.records.Maker.{Maker}
-use Rattle.guid_handles.specs.declared.records.Turn.{Turn}
+use Rattle.guid_handles.specs.declared.records.Pair.{Pair}
 use Rattle.guid_handles.specs.HandleTables.{same_guid, has_number, is_at}
 use Rattle.guid_handles.specs.Sorting.{Ascending, place, kept_if}
 
 -- ---- by handle
 
 -- a live handle of a number, with its maker if a driver made it
-abbrev pub live_handle : ℕ → Bool → Maker → LiveHandle
+abbrev pub live_handle : ℕ → Bool → Pair → LiveHandle
 live_handle number is_made maker =
     record { number = number; maker = cond is_made (Some maker) None }
 
@@ -76,47 +75,27 @@ pub record ChangesKeys (n : ℕ) (f : List ℕ → List ℕ) (old new : List Row
   pub lives : lives new ≡ lives old
   pub keys : (m : ℕ) → keys_on new m ≡ cond (n == m) (f (keys_on old m)) (keys_on old m)
 
--- ---- by stamp
-
--- interfaces by ascending stamps
-abbrev pub AreInTurn : List Turn → Type 0
-AreInTurn turns = Ascending (λ a b. a < b) (map (λ t. t.stamp) turns)
-
--- a turn is that of a stamp on a handle
-abbrev pub is_turn : ℕ → ℕ → Turn → Bool
-is_turn n stamp t = (t.handle == n) && (t.stamp == stamp)
-
--- the turn of a handle comes behind the others
-abbrev pub with_turn : ℕ → ℕ → List Turn → List Turn
-with_turn n stamp turns = turns ++ record { stamp = stamp; handle = n } ∷ []
-
--- the turn of a stamp goes
-abbrev pub without_turn : ℕ → List Turn → List Turn
-without_turn stamp turns = filter (λ t. not (t.stamp == stamp)) turns
-
 -- ---- by GUID
 
--- a GUID, the handles that carry it, beside each the key of its interface, and the interfaces by
--- their stamps
+-- a GUID, the handles that carry it, and beside each the stamp of its interface
 pub record Group : Type 0 where
   pub guid : List ℕ
   pub holders : List ℕ
-  pub keys : List ℕ
-  pub turns : List Turn
+  pub stamps : List ℕ
 
--- handles that ascend, and as many keys
-pub record AreBeside (holders keys : List ℕ) : Type 0 where
+-- handles that ascend, and as many stamps
+pub record AreBeside (holders stamps : List ℕ) : Type 0 where
   pub ascending : Ascending (λ a b. a < b) holders
-  pub even : length holders ≡ length keys
+  pub even : length holders ≡ length stamps
 
--- the key beside a handle
-abbrev pub key_beside : List ℕ → List ℕ → ℕ → Option ℕ
-key_beside [] ks n = None
-key_beside (h ∷ hs) [] n = None
-key_beside (h ∷ hs) (k ∷ ks) n = cond (h == n) (Some k) (key_beside hs ks n)
+-- the stamp beside a handle
+abbrev pub stamp_beside : List ℕ → List ℕ → ℕ → Option ℕ
+stamp_beside [] ss n = None
+stamp_beside (h ∷ hs) [] n = None
+stamp_beside (h ∷ hs) (s ∷ ss) n = cond (h == n) (Some s) (stamp_beside hs ss n)
 
-abbrev pub key_in : Group → ℕ → Option ℕ
-key_in g n = key_beside g.holders g.keys n
+abbrev pub stamp_in : Group → ℕ → Option ℕ
+stamp_in g n = stamp_beside g.holders g.stamps n
 
 -- a group is of a GUID
 abbrev pub is_group_of : List ℕ → Group → Bool
@@ -130,48 +109,61 @@ is_before guid g = is_lt (slice_cmp nat_cmp g.guid guid)
 abbrev pub AscendByGuid : List Group → Type 0
 AscendByGuid groups = Ascending (λ a b. slice_cmp nat_cmp a b ≡ Less) (map (λ g. g.guid) groups)
 
--- a group has no holders and no turns
+-- a group has no holders
 abbrev pub is_bare : Group → Bool
-is_bare g = (length g.holders == 0) && (length g.turns == 0)
+is_bare g = length g.holders == 0
+
+-- groups by ascending GUID, none of them bare
+pub record AreGroups (groups : List Group) : Type 0 where
+  pub ascending : AscendByGuid groups
+  pub held : AllByRecursion (λ g. is_bare g ≡ false) groups
 
 -- the place of the group of a GUID
 abbrev pub IsPlaceOf : List ℕ → List Group → ℕ → Type 0
 IsPlaceOf guid groups at = (at < length groups)
     × (find (is_group_of guid) groups ≡ slice_get groups at) × (at ≡ place (is_before guid) groups)
 
--- the key of the interface of a GUID on a handle
-abbrev pub key_at : List Group → List ℕ → ℕ → Option ℕ
-key_at groups guid n = option_and_then (λ g. key_in g n) (find (is_group_of guid) groups)
+-- the stamp of the interface of a GUID on a handle
+abbrev pub stamp_at : List Group → List ℕ → ℕ → Option ℕ
+stamp_at groups guid n = option_and_then (λ g. stamp_in g n) (find (is_group_of guid) groups)
 
-abbrev pub turns_in : Option Group → List Turn
-turns_in None = []
-turns_in (Some g) = g.turns
+-- the stamp beside one handle becomes another or goes, and no other does
+abbrev pub SetsStampIn : ℕ → Option ℕ → Group → Group → Type 0
+SetsStampIn handle stamp old new =
+    (n : ℕ) → stamp_in new n ≡ cond (handle == n) stamp (stamp_in old n)
 
--- the interfaces of a GUID by their stamps
-abbrev pub turns_of : List Group → List ℕ → List Turn
-turns_of groups guid = turns_in (find (is_group_of guid) groups)
+-- the stamp of one GUID on one handle becomes another or goes, and no other does
+abbrev pub SetsStamp : List ℕ → ℕ → Option ℕ → List Group → List Group → Type 0
+SetsStamp guid handle stamp old new = (k : List ℕ) (n : ℕ)
+    → stamp_at new k n ≡ cond ((handle == n) && same_guid guid k) stamp (stamp_at old k n)
 
--- the key beside one handle becomes another or goes, and no other does
-abbrev pub SetsKeyIn : ℕ → Option ℕ → Group → Group → Type 0
-SetsKeyIn handle key old new = (n : ℕ) → key_in new n ≡ cond (handle == n) key (key_in old n)
+-- the stamp of an interface is added
+abbrev pub AddsStamp : Interface → List Group → List Group → Type 0
+AddsStamp i old new = SetsStamp i.guid i.handle (Some i.stamp) old new
 
--- the key of one GUID on one handle becomes another or goes, and no other does
-abbrev pub SetsKey : List ℕ → ℕ → Option ℕ → List Group → List Group → Type 0
-SetsKey guid handle key old new = (k : List ℕ) (n : ℕ)
-    → key_at new k n ≡ cond ((handle == n) && same_guid guid k) key (key_at old k n)
+-- each stamp is the same
+abbrev pub HaveSameStamps : List Group → List Group → Type 0
+HaveSameStamps old new = (k : List ℕ) (n : ℕ) → stamp_at new k n ≡ stamp_at old k n
 
--- each key is the same
-abbrev pub HaveSameKeys : List Group → List Group → Type 0
-HaveSameKeys old new = (k : List ℕ) (n : ℕ) → key_at new k n ≡ key_at old k n
+-- ---- the next stamp
 
--- the turns of one GUID change, and no others
-abbrev pub ChangesTurns : List ℕ → (List Turn → List Turn) → List Group → List Group → Type 0
-ChangesTurns guid f old new = (k : List ℕ)
-    → turns_of new k ≡ cond (same_guid guid k) (f (turns_of old k)) (turns_of old k)
+-- the earlier one of a handle with a stamp, and another if there is one
+abbrev pub sooner : ℕ → ℕ → Option (ℕ × ℕ) → Option (ℕ × ℕ)
+sooner h s None = Some (h, s)
+sooner h s (Some p) = cond (nat_lt p.1 s) (Some p) (Some (h, s))
 
--- the turns of each GUID are the same
-abbrev pub HaveSameTurns : List Group → List Group → Type 0
-HaveSameTurns old new = (k : List ℕ) → turns_of new k ≡ turns_of old k
+-- the handle with the least stamp above a mark, and this stamp
+abbrev pub least_after : ℕ → List ℕ → List ℕ → Option (ℕ × ℕ)
+least_after mark [] ss = None
+least_after mark (h ∷ hs) [] = None
+least_after mark (h ∷ hs) (s ∷ ss) =
+    cond (nat_lt mark s) (sooner h s (least_after mark hs ss)) (least_after mark hs ss)
+
+-- Of the stamps of some handles, the least one above a mark, with its handle; none if none is above.
+abbrev pub IsNext : ℕ → (ℕ → Option ℕ) → Option (ℕ × ℕ) → Type 0
+IsNext mark there None = (n s : ℕ) → there n ≡ Some s → nat_lt mark s ≡ false
+IsNext mark there (Some p) = (there p.0 ≡ Some p.1) × (nat_lt mark p.1 ≡ true)
+    × ((n s : ℕ) → there n ≡ Some s → nat_lt mark s ≡ true → p.1 ≤ s)
 
 -- ---- pairs and interfaces
 

@@ -5,11 +5,8 @@ pub mod Indexes
 pub mod Sliding
 pub mod Slots
 pub mod Stores
-pub mod KeyRoom
-pub mod Blocks
-pub mod PlaceRows
+pub mod ListRoom
+pub mod NumberLists
 pub mod Places
 pub mod MadeOn
 pub mod TableSteps
-pub mod TurnSteps
-pub mod FiledTurns

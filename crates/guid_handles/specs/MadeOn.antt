@@ -2,13 +2,13 @@
 use Rattle.std.specs.Prelude.{◌≡◌, ℕ, ◌==◌, Bool, false, List, map, Option, Some, None}
 use Rattle.std.specs.List.{filter}
 use Rattle.guid_handles.specs.declared.records.LiveHandle.{LiveHandle}
-use Rattle.guid_handles.specs.declared.records.Maker.{Maker}
+use Rattle.guid_handles.specs.declared.records.Pair.{Pair}
 use Rattle.guid_handles.specs.HandleTables.{HandleTable}
 use Rattle.guid_handles.specs.Indexes.{AreRows, FiledRow, lives, rows_in}
-use Rattle.guid_handles.specs.Blocks.{Block, BlockGroup, ChangesBlock, block_at}
+use Rattle.guid_handles.specs.NumberLists.{ChangesList, list_of}
 
 -- a maker, if there is one, is of a controller
-abbrev pub is_of_controller : ℕ → Option Maker → Bool
+abbrev pub is_of_controller : ℕ → Option Pair → Bool
 is_of_controller controller None = false
 is_of_controller controller (Some m) = m.controller == controller
 
@@ -23,17 +23,18 @@ numbers_made_on controller hs = map (λ h. h.number) (filter (is_made_on control
 abbrev pub made_on : HandleTable → ℕ → List ℕ
 made_on t controller = numbers_made_on controller t.handles
 
--- the block of each controller has the handles that drivers made on it
-abbrev pub AreMadeOn : List LiveHandle → List BlockGroup → Type 0
-AreMadeOn hs blocks = (c : ℕ) → (block_at blocks c).places ≡ numbers_made_on c hs
+-- the list of each controller has the handles that drivers made on it
+abbrev pub AreMadeOn : List LiveHandle → List (ℕ × List ℕ) → Type 0
+AreMadeOn hs lists = (c : ℕ) → list_of lists c ≡ numbers_made_on c hs
 
--- the block of the controller of a maker changes, if there is a maker
-abbrev pub ChangesMade : Option Maker → (Block → Block) → List BlockGroup → List BlockGroup
+-- the list of the controller of a maker changes, if there is a maker
+abbrev pub ChangesMade : Option Pair → (List ℕ → List ℕ) → List (ℕ × List ℕ) → List (ℕ × List ℕ)
     → Type 0
 ChangesMade None f old new = new ≡ old
-ChangesMade (Some m) f old new = ChangesBlock m.controller f old new
+ChangesMade (Some m) f old new = ChangesList m.controller f old new
 
 -- rows, their numbers, and the handles that were made by the controllers of their makers
-pub record AreRowsNoted (fs : List FiledRow) (ns : List ℕ) (blocks : List BlockGroup) : Type 0 where
+pub record AreRowsNoted (fs : List FiledRow) (ns : List ℕ) (lists : List (ℕ × List ℕ))
+    : Type 0 where
   pub rows : AreRows fs ns
-  pub made : AreMadeOn (lives (rows_in fs)) blocks
+  pub made : AreMadeOn (lives (rows_in fs)) lists

@@ -3,18 +3,18 @@ use Rattle.std.specs.Prelude.{◌≡◌, ℕ, ◌+◌, ◌-◌, ◌<◌, ◌≤�
 use Rattle.std.specs.List.{filter, AllByRecursion}
 use Rattle.page_ranges.specs.declared.statuses.Status.{Status}
 use Rattle.guid_handles.specs.declared.records.Interface.{Interface}
-use Rattle.guid_handles.specs.declared.records.Maker.{Maker}
+use Rattle.guid_handles.specs.declared.records.Pair.{Pair}
 use Rattle.guid_handles.specs.HandleTables.{HandleTable, is_at, numbers}
 use Rattle.guid_handles.specs.HandleChanges.{Installs, install_refusal, install_many_refusal, restamped, with_handle, with_interfaces, without_handle}
 
 -- ---- a handle that comes or goes
 
 -- A handle is made, with the number after the last, and has no interface yet.
-abbrev pub MakesHandle : Option Maker → HandleTable → ℕ → HandleTable → Type 0
+abbrev pub MakesHandle : Option Pair → HandleTable → ℕ → HandleTable → Type 0
 MakesHandle maker t n new = (n ≡ t.last_number + 1) × (new ≡ with_handle maker t)
 
 -- A handle is made, with the number after the last, and the pairs are installed on it.
-abbrev pub MakesHandleWith : Option Maker → List (List ℕ × ℕ) → HandleTable → ℕ → HandleTable
+abbrev pub MakesHandleWith : Option Pair → List (List ℕ × ℕ) → HandleTable → ℕ → HandleTable
     → Type 0
 MakesHandleWith maker pairs t n new =
     (n ≡ t.last_number + 1) × (new ≡ with_interfaces n pairs (with_handle maker t))

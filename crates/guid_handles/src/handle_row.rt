@@ -3,8 +3,8 @@ ghost use Rattle.std.specs.Prelude.{◌≡◌, ◌<◌, ◌==◌, ◌++◌, [], 
 ghost use Rattle.std.specs.List.{filter};
 ghost use Rattle.guid_handles.specs.Indexes.{is_filed_of};
 
-use crate::handle_keys::HandleKeys;
-use crate::records::{LiveHandle, Maker};
+use crate::records::{LiveHandle, Pair};
+use crate::short_list::ShortList;
 use std::alloc::{AllocError, Allocator};
 use std::marker::Model;
 
@@ -16,8 +16,8 @@ pub(crate) struct HandleRow<A: Allocator> {
     gone: bool,
     // Whether it has a maker. Where it has none, `maker` says nothing.
     is_made: bool,
-    keys: HandleKeys<A>,
-    maker: Maker,
+    keys: ShortList<A>,
+    maker: Pair,
 }
 
 impl<A: Allocator> Model for HandleRow<A> {
@@ -39,13 +39,13 @@ impl<A: Allocator + Copy> HandleRow<A> {
           gone = false;
         }) }
     {
-        let keys = HandleKeys::new(alloc)?;
+        let keys = ShortList::new(alloc)?;
         Ok(HandleRow {
             number: live.number,
             gone: false,
             is_made: live.maker.is_some(),
             keys,
-            maker: live.maker.unwrap_or(Maker {
+            maker: live.maker.unwrap_or(Pair {
                 controller: 0,
                 agent: 0,
             }),
@@ -54,7 +54,7 @@ impl<A: Allocator + Copy> HandleRow<A> {
 
     /// The same handle with other keys.
     #[inline(always)]
-    fn with_keys(&self, keys: HandleKeys<A>) -> HandleRow<A>
+    fn with_keys(&self, keys: ShortList<A>) -> HandleRow<A>
         ensures { result ≡ record {
           row = record { live = self.now.row.live; keys = keys };
           gone = self.now.gone;

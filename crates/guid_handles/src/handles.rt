@@ -3,16 +3,16 @@ ghost use Rattle.std.specs.Prelude.{◌≡◌, ◌≢◌, ◌+◌, ◌-◌, ◌<
 ghost use Rattle.std.specs.List.{find, list_any, AllByRecursion};
 ghost use Rattle.guid_handles.specs.HandleTables.{numbers, same_guid, is_live, is_on, maker_of, interface_at, value_at, carries, holders_of, interfaces_on, guids_on, written_over, next_after};
 ghost use Rattle.guid_handles.specs.HandleChanges.{IsHandleTable, max_handles, max_in_table, max_installed, no_handles, has_guid_twice, is_dead, is_taken, past_limit, refusal, with_interfaces, install_refusal, install_many_refusal, Installs, without_handle, without_interface, with_value};
-ghost use Rattle.guid_handles.specs.Indexes.{AreAbsent, ChangesKeys, ChangesTurns, HaveSameKeys, HaveSameTurns, SetsKey, is_row_of, key_at, turns_of, with_turn};
+ghost use Rattle.guid_handles.specs.Indexes.{AddsStamp, AreAbsent, ChangesKeys, HaveSameStamps, is_row_of, stamp_at};
 ghost use Rattle.guid_handles.specs.Slots.{record_at, with_stamp};
 ghost use Rattle.guid_handles.specs.Sorting.{Ascending};
 ghost use Rattle.guid_handles.specs.MadeOn.{made_on};
 ghost use Rattle.guid_handles.specs.TableSteps.{AreOthersLower, AreOthersOlder, InstallsMany, InstallsOne, MakesHandle, MakesHandleWith, AreOlder, taken_back, taken_back_to, taken_out, IsAlone, MayHave, put_at, with_stamp_given, without_above, without_last_handle};
-ghost use Rattle.guid_handles.specs.Stores.{AgreeOnKeys};
+ghost use Rattle.guid_handles.specs.Stores.{key_at};
 
 use crate::groups::Groups;
 use crate::guids::is_same_guid;
-use crate::records::{Interface, LiveHandle, Maker, Record};
+use crate::records::{Interface, LiveHandle, Pair, Record};
 use crate::room::make_slot;
 use crate::rows::Rows;
 use crate::searches::{find_key, interface_at, nth_key, write_guids};
@@ -32,11 +32,9 @@ pub const MAX_IN_TABLE: usize = 2 * MAX_HANDLES;
 /// The most interfaces that one call may install.
 pub const MAX_INSTALLED: usize = 16;
 
-/// How many interfaces of a handle are gone through for one of a GUID.
-const FEW_KEYS: usize = 8;
-
 /// The handle table: the live handles and the protocol interfaces on them. Each interface is kept
-/// once, under a key that stays; the rows of the handles and the groups of the GUIDs have its key.
+/// once, under a key that stays. The row of its handle has its key, and the group of its GUID its
+/// stamp.
 #[derive(Drop)]
 pub struct Handles<A: Allocator = Global> {
     rows: Rows<A>,
@@ -59,61 +57,45 @@ impl<A: Allocator> Model for Handles<A> {
         IsStore h.rows h.records.slots h.groups h.last_number h.last_stamp h.places };
 }
 
-/// Puts the key of an interface on a live handle into its row, and into the group of its GUID with
-/// its stamp, which is above all others there, and returns where its turn is. On an `Err` the rows are
-/// as they were, and the groups have the same keys and turns.
+/// Puts the key of an interface on a live handle into its row, and its stamp into the group of its
+/// GUID. On an `Err` the rows are as they were, and the groups have the same stamps.
 fn file_key<A: Allocator + Copy>(
     rows: &mut Rows<A>,
     groups: &mut Groups<A>,
-    handle: u64,
-    guid: Uuid,
+    own: &Interface,
     key: usize,
-    stamp: u64,
-) -> Result<usize, AllocError>
-    requires live { is_some (find (is_row_of handle) rows.old) ≡ true }
-    requires absent { key_at groups.old guid handle ≡ None }
-    requires last { AllByRecursion (λ t. t.stamp < stamp) (turns_of groups.old guid) }
-    ensures rows { OnOk result (ChangesKeys handle (λ ks. ks ++ key ∷ []) rows.old rows.new) }
-    ensures groups { OnOk result (SetsKey guid handle (Some key) groups.old groups.new) }
-    ensures turns { OnOk result
-        (ChangesTurns guid (with_turn handle stamp) groups.old groups.new) }
+) -> Result<(), AllocError>
+    requires live { is_some (find (is_row_of own.now.handle) rows.old) ≡ true }
+    requires absent { stamp_at groups.old own.now.guid own.now.handle ≡ None }
+    ensures rows { OnOk result
+        (ChangesKeys own.now.handle (λ ks. ks ++ key ∷ []) rows.old rows.new) }
+    ensures groups { OnOk result (AddsStamp own.now groups.old groups.new) }
     ensures rows_stay { OnErr result (rows.new ≡ rows.old) }
-    ensures groups_stay { OnErr result (HaveSameKeys groups.old groups.new) }
-    ensures turns_stay { OnErr result (HaveSameTurns groups.old groups.new) }
+    ensures groups_stay { OnErr result (HaveSameStamps groups.old groups.new) }
 {
-    let place = groups.add(guid, handle, key, stamp)?;
-    if let Err(error) = rows.push_key(handle, key) {
-        groups.remove(guid, handle, stamp, place);
+    groups.add(own.guid, own.handle, own.stamp)?;
+    if let Err(error) = rows.push_key(own.handle, key) {
+        groups.remove(own.guid, own.handle);
         return Err(error);
     }
-    Ok(place)
+    Ok(())
 }
 
-/// The key of the interface of a GUID on a handle. It is looked for among the keys of the handle where
-/// these are few, else in the group of the GUID.
+/// The key of the interface of a GUID on a handle.
 fn key_of<A: Allocator + Copy>(
     rows: &Rows<A>,
     records: &Slab<Record, A>,
-    groups: &Groups<A>,
     handle: u64,
     guid: Uuid,
 ) -> Option<usize>
-    requires { AgreeOnKeys records.now.slots rows.now groups.now }
-    ensures { result ≡ key_at groups.now guid handle }
+    ensures { result ≡ key_at records.now.slots rows.now guid handle }
 {
-    let keys = rows.keys(handle);
-    if keys.len() <= FEW_KEYS {
-        find_key(records, keys, guid)
-    } else {
-        groups.key(guid, handle)
-    }
+    find_key(records, rows.keys(handle), guid)
 }
 
-/// Gives the interface at a key a value and a stamp, and returns the stamp that it had.
-fn restamp<A: Allocator>(records: &mut Slab<Record, A>, key: usize, value: u64, stamp: u64) -> u64
+/// Gives the interface at a key a value and a stamp.
+fn restamp<A: Allocator>(records: &mut Slab<Record, A>, key: usize, value: u64, stamp: u64)
     requires there { is_some (record_at records.old.slots key) ≡ true }
-    ensures own { option_map (λ r. r.interface.stamp) (record_at records.old.slots key)
-        ≡ Some result }
     ensures changed { record_at records.new.slots key
         ≡ option_map (with_stamp value stamp) (record_at records.old.slots key) }
     ensures others { (j : ℕ) → j ≢ key
@@ -121,28 +103,21 @@ fn restamp<A: Allocator>(records: &mut Slab<Record, A>, key: usize, value: u64, 
 {
     match records.get_mut(key) {
         Some(record) => {
-            let own = record.interface.stamp;
             record.interface.value = value;
             record.interface.stamp = stamp;
-            own
         }
         None => unreachable!(),
     }
 }
 
-/// Removes the interface at a key, and returns it.
-fn take_record<A: Allocator>(records: &mut Slab<Record, A>, key: usize) -> Record
+/// Removes the interface at a key.
+fn drop_record<A: Allocator>(records: &mut Slab<Record, A>, key: usize)
     requires there { is_some (record_at records.old.slots key) ≡ true }
-    ensures own { option_map (λ r. r.interface.stamp) (record_at records.old.slots key)
-        ≡ Some result.interface.stamp }
     ensures gone { record_at records.new.slots key ≡ None }
     ensures others { (j : ℕ) → j ≢ key
         → record_at records.new.slots j ≡ record_at records.old.slots j }
 {
-    match records.try_remove(key) {
-        Some(record) => record,
-        None => unreachable!(),
-    }
+    let _removed = records.try_remove(key);
 }
 
 /// The last of some numbers, if it is above one.
@@ -222,7 +197,7 @@ impl<A: Allocator + Copy> Handles<A> {
     }
 
     /// The maker of a handle, if it is live and has one.
-    pub fn maker_of(&self, handle: u64) -> Option<Maker>
+    pub fn maker_of(&self, handle: u64) -> Option<Pair>
         ensures { result ≡ maker_of self.now handle }
     {
         self.rows.find(handle).and_then(|h| h.maker)
@@ -246,7 +221,7 @@ impl<A: Allocator + Copy> Handles<A> {
     fn find(&self, handle: u64, guid: Uuid) -> Option<Interface>
         ensures { result ≡ interface_at self.now handle guid }
     {
-        match key_of(&self.rows, &self.records, &self.groups, handle, guid) {
+        match key_of(&self.rows, &self.records, handle, guid) {
             Some(key) => interface_at(&self.records, key),
             None => None,
         }
@@ -338,6 +313,9 @@ impl<A: Allocator + Copy> Handles<A> {
     pub fn after_stamp(&self, guid: Uuid, mark: u64) -> Option<(u64, u64)>
         ensures { result ≡ next_after self.now guid mark }
     {
+        if mark >= self.last_stamp {
+            return None;
+        }
         self.groups.after(guid, mark)
     }
 
@@ -421,17 +399,16 @@ impl<A: Allocator + Copy> Handles<A> {
         make_slot(&mut self.records)?;
         let key = self.records.vacant_key();
         let stamp = self.last_stamp + 1;
-        let turn_place = file_key(&mut self.rows, &mut self.groups, handle, guid, key, stamp)?;
         let interface = Interface {
             handle,
             guid,
             value,
             stamp,
         };
+        file_key(&mut self.rows, &mut self.groups, &interface, key)?;
         self.records.insert_reserved(Record {
             interface,
             installed: stamp,
-            turn_place,
         });
         self.last_stamp = stamp;
         Ok(())
@@ -469,7 +446,7 @@ impl<A: Allocator + Copy> Handles<A> {
     }
 
     /// Makes a handle without interfaces, and returns its number.
-    fn make_bare(&mut self, maker: Option<Maker>) -> Result<u64, AllocError>
+    fn make_bare(&mut self, maker: Option<Pair>) -> Result<u64, AllocError>
         requires room { length self.old.handles < self.old.places }
         requires numbers { self.old.last_number < 2 ^ 62 }
         ensures ok { IfOk result (λ n. MakesHandle maker self.old n self.new) }
@@ -496,7 +473,7 @@ impl<A: Allocator + Copy> Handles<A> {
     /// Installs interfaces on a new handle.
     fn install_on_new(
         &mut self,
-        maker: Option<Maker>,
+        maker: Option<Pair>,
         pairs: &[(Uuid, u64)],
     ) -> Result<u64, AllocError>
         requires room { length self.old.handles < self.old.places }
@@ -589,7 +566,7 @@ impl<A: Allocator + Copy> Handles<A> {
             self.old n self.new) }
         ensures err { OnErr result (self.new ≡ self.old) }
     {
-        self.install_on_new(Some(Maker { controller, agent }), pairs)
+        self.install_on_new(Some(Pair { controller, agent }), pairs)
     }
 
     /// Removes an interface, and leaves its handle. Returns whether others are left on it.
@@ -598,11 +575,10 @@ impl<A: Allocator + Copy> Handles<A> {
         ensures any { result ≡ list_any (is_on handle) self.new.interfaces }
         ensures live { result ≡ true → is_live self.new handle ≡ true }
     {
-        match key_of(&self.rows, &self.records, &self.groups, handle, guid) {
+        match key_of(&self.rows, &self.records, handle, guid) {
             Some(key) => {
-                let record = take_record(&mut self.records, key);
-                let stamp = record.interface.stamp;
-                self.groups.remove(guid, handle, stamp, record.turn_place);
+                drop_record(&mut self.records, key);
+                self.groups.remove(guid, handle);
                 self.rows.remove_key(handle, key)
             }
             None => self.has_any(handle),
@@ -693,9 +669,9 @@ impl<A: Allocator + Copy> Handles<A> {
         requires given { stamp ≤ self.old.last_stamp }
         ensures { self.new ≡ put_at handle guid value stamp self.old }
     {
-        if let Some(key) = key_of(&self.rows, &self.records, &self.groups, handle, guid) {
-            let own = restamp(&mut self.records, key, value, stamp);
-            self.groups.restamp(guid, handle, own, stamp);
+        if let Some(key) = key_of(&self.rows, &self.records, handle, guid) {
+            restamp(&mut self.records, key, value, stamp);
+            self.groups.restamp(guid, handle, stamp);
         }
     }
 

@@ -1,9 +1,11 @@
 //! What the handle table lists.
 use uuid::Uuid;
 
-/// The maker of a handle: a driver that was started on a controller and made the handle as a child.
-#[derive(Clone, Copy)]
-pub struct Maker {
+/// A controller and the agent of a driver on it: one that made a handle as a child, that manages the
+/// controller, or that calls OpenProtocol.
+#[repr(C)]
+#[derive(Clone, Copy, Debug, PartialEq, Eq)]
+pub struct Pair {
     pub controller: u64,
     /// The driver's own handle.
     pub agent: u64,
@@ -13,7 +15,7 @@ pub struct Maker {
 #[derive(Clone, Copy)]
 pub struct LiveHandle {
     pub number: u64,
-    pub maker: Option<Maker>,
+    pub maker: Option<Pair>,
 }
 
 /// A protocol interface on a handle.
@@ -32,20 +34,4 @@ pub(crate) struct Record {
     pub(crate) interface: Interface,
     /// The stamp of its installation. Interfaces are in the order of these.
     pub(crate) installed: u64,
-    /// Where its turn was put, and is unless turns went.
-    pub(crate) turn_place: usize,
-}
-
-/// An interface of a GUID, by its stamp.
-#[derive(Clone, Copy)]
-pub(crate) struct Turn {
-    pub(crate) stamp: u64,
-    pub(crate) handle: u64,
-}
-
-/// A turn as it is kept, which may be that of an interface that is gone.
-#[derive(Clone, Copy)]
-pub(crate) struct FiledTurn {
-    pub(crate) turn: Turn,
-    pub(crate) gone: bool,
 }

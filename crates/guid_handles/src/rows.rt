@@ -4,11 +4,11 @@ ghost use Rattle.std.specs.List.{find, filter, AllByRecursion};
 ghost use Rattle.guid_handles.specs.HandleTables.{has_number};
 ghost use Rattle.guid_handles.specs.Sorting.{Ascending, place};
 ghost use Rattle.guid_handles.specs.Indexes.{lives, row_numbers, keys_on, is_row_of, filed_number, filed_numbers, is_filed_at, rows_in, ChangesKeys};
-ghost use Rattle.guid_handles.specs.Blocks.{block_at, with_last, without_place};
+ghost use Rattle.guid_handles.specs.NumberLists.{list_of, with_last, without};
 ghost use Rattle.guid_handles.specs.MadeOn.{ChangesMade, numbers_made_on};
 
-use crate::blocks::Blocks;
 use crate::handle_row::HandleRow;
+use crate::number_lists::NumberLists;
 use crate::records::LiveHandle;
 use crate::room::make_room;
 use crate::searches::remove_number;
@@ -26,7 +26,7 @@ pub(crate) struct Rows<A: Allocator> {
     rows: Vec<HandleRow<A>, A>,
     numbers: SlidingRow<u64, A>,
     // Those that drivers made, by the controllers of these.
-    made: Blocks<A>,
+    made: NumberLists<A>,
 }
 
 impl<A: Allocator> Model for Rows<A> {
@@ -166,7 +166,10 @@ fn tidy<A: Allocator + Copy>(rows: &mut Vec<HandleRow<A>, A>, live: usize)
 }
 
 /// Notes a handle by the controller of its maker, if it has one. On an `Err` nothing changes.
-fn note_made<A: Allocator + Copy>(made: &mut Blocks<A>, live: LiveHandle) -> Result<(), AllocError>
+fn note_made<A: Allocator + Copy>(
+    made: &mut NumberLists<A>,
+    live: LiveHandle,
+) -> Result<(), AllocError>
     ensures ok { OnOk result (ChangesMade live.maker (with_last live.number) made.old made.new) }
     ensures err { OnErr result (made.new ≡ made.old) }
 {
@@ -176,10 +179,10 @@ fn note_made<A: Allocator + Copy>(made: &mut Blocks<A>, live: LiveHandle) -> Res
     }
 }
 
-/// Removes a handle from those by the controllers of their makers, which ascend in each block.
-fn forget_made<A: Allocator + Copy>(made: &mut Blocks<A>, live: LiveHandle)
-    requires { (c : ℕ) → Ascending (λ a b. a < b) (block_at made.old c).places }
-    ensures { ChangesMade live.maker (without_place live.number) made.old made.new }
+/// Removes a handle from those by the controllers of their makers, which ascend in each list.
+fn forget_made<A: Allocator + Copy>(made: &mut NumberLists<A>, live: LiveHandle)
+    requires { (c : ℕ) → Ascending (λ a b. a < b) (list_of made.old c) }
+    ensures { ChangesMade live.maker (without live.number) made.old made.new }
 {
     if let Some(maker) = live.maker {
         made.remove_ascending(maker.controller, live.number as usize);
@@ -194,7 +197,7 @@ impl<A: Allocator + Copy> Rows<A> {
         Rows {
             rows: Vec::new(alloc),
             numbers: SlidingRow::new(alloc),
-            made: Blocks::new(alloc),
+            made: NumberLists::new(alloc),
         }
     }
 
@@ -224,7 +227,7 @@ impl<A: Allocator + Copy> Rows<A> {
     pub(crate) fn made_on(&self, controller: u64) -> &[usize]
         ensures { result.now ≡ numbers_made_on controller (lives self.now) }
     {
-        self.made.places(controller)
+        self.made.of(controller)
     }
 
     /// The handle of a number.

@@ -1,5 +1,5 @@
 //! Rows in which the shorter side moves where a value goes.
-ghost use Rattle.std.specs.Prelude.{◌≡◌, ◌+◌, ◌<◌, ◌≤◌, ◌++◌, [], ◌∷◌, length, drop, vec_len, vec_capacity, IfOk, OnOk};
+ghost use Rattle.std.specs.Prelude.{◌≡◌, ◌+◌, ◌<◌, ◌≤◌, ◌++◌, [], ◌∷◌, length, drop, slice_set, vec_len, vec_capacity, IfOk, OnOk};
 ghost use Rattle.std.specs.List.{insert, remove};
 
 use crate::room::insert_with_room;
@@ -28,9 +28,6 @@ impl<T: Copy, A: Allocator> Model for SlidingRow<T, A> {
 
     ghost invariant = { λ r. r.gone ≤ length r.values.items };
 }
-
-/// For how many values the memory of a row is little.
-const FEW_VALUES: usize = 16;
 
 /// How many values more a full row gets room for at least: four at first, so that many short rows take
 /// little, then 12.
@@ -62,23 +59,6 @@ impl<T: Copy, A: Allocator> SlidingRow<T, A> {
         }
     }
 
-    /// Some values, in memory for `room` of them at least.
-    pub(crate) fn from_slice(
-        alloc: A,
-        values: &[T],
-        room: usize,
-    ) -> Result<SlidingRow<T, A>, AllocError>
-        ensures { IfOk result (λ row. row.items ≡ values.now) }
-    {
-        let mut own = Vec::new(alloc);
-        own.reserve_exact(room)?;
-        own.extend_from_slice(values)?;
-        Ok(SlidingRow {
-            values: own,
-            gone: 0,
-        })
-    }
-
     /// The same values, in memory of their own.
     pub(crate) fn try_copy(&self) -> Result<SlidingRow<T, A>, AllocError>
     where
@@ -106,11 +86,6 @@ impl<T: Copy, A: Allocator> SlidingRow<T, A> {
         ensures { result ≡ length self.now.items }
     {
         self.values.len() - self.gone
-    }
-
-    /// Whether the row has memory for many values.
-    pub(crate) fn is_roomy(&self) -> bool {
-        self.values.capacity() > FEW_VALUES
     }
 
     /// Makes room for one more value, if there is none.
@@ -156,6 +131,14 @@ impl<T: Copy, A: Allocator> SlidingRow<T, A> {
         close_gap(&mut self.values, self.gone);
         self.gone = 0;
         self.values.push_reserved(value);
+    }
+
+    /// Puts a value at a place.
+    pub(crate) fn set(&mut self, at: usize, value: T)
+        requires { at < length self.old.items }
+        ensures { self.new.items ≡ slice_set self.old.items at value }
+    {
+        self.values[self.gone + at] = value;
     }
 
     /// Removes the value at a place, by which there is room for another one.

@@ -1,4 +1,4 @@
--- What is asked of an interface's items is asked of those in the block of its handle alone.
+-- What is asked of an interface's items is asked of those near its handle alone.
 use Rattle.std.proofs.Common.{◌≡◌, ℕ, ◌==◌, ◌&&◌, ◌||◌, not, Bool, true, false, cond, List, [], ◌∷◌, map, is_some, inl, inr, refl, sym, ap, ◌∙◌, Option, Some, None}
 use Rattle.std.specs.List.{filter, list_any, AllByRecursion}
 use Rattle.std.proofs.lemmas.Bool.{cases_Bool, eq-eqb}
@@ -12,7 +12,6 @@ use Rattle.open_agents.specs.declared.items.Decision.TheVariants.{Add}
 use Rattle.open_agents.specs.OpenRule.{add_or_stop, has_equal, has_of_agent, has_holder, has_exclusive, is_driver_item, driver_item, names_badly, needs_agent, open_rule}
 use Rattle.open_agents.proofs.Placed.{none_of_agent_0}
 use Rattle.open_agents.specs.Blocks.{is_beside, is_near}
-use Rattle.open_agents.specs.Listed.{is_of_agent}
 
 pub first_part : (a b : Bool) → (a && b) ≡ true → a ≡ true
 first_part a b h = elim (cases_Bool a) [
@@ -43,24 +42,24 @@ pub second_part : (a b : Bool) → (a && b) ≡ true → b ≡ true
 second_part true b h = h
 second_part false b h = cc
 
--- once the items of an agent are gone, none is of it
-pub none_of_agent : (agent : ℕ) (opens left : List OpenRecord) → left ≡ filter (λ o. not (is_of_agent agent o)) opens → AllByRecursion (λ o. (o.agent == agent) ≡ false) left
-none_of_agent agent opens left e = rw e (all_left agent opens)
+pub no_part : (a b : Bool) → (a || b) ≡ false → (a ≡ false) × (b ≡ false)
+no_part true b h = cc
+no_part false b h = (refl, h)
+
+-- once the items that name a handle are gone, it is the agent of none
+pub none_named : (n : ℕ) (opens left : List OpenRecord) → left ≡ filter (λ o. not (names n o)) opens → AllByRecursion (λ o. (o.agent == n) ≡ false) left
+none_named n opens left e = rw e (all_left n opens)
   where
-    all_left : (a : ℕ) (os : List OpenRecord) → AllByRecursion (λ o. (o.agent == a) ≡ false) (filter (λ o. not (is_of_agent a o)) os)
-    all_left a [] = tt
-    all_left a (o ∷ os) = elim (cases_Bool (o.agent == a)) [
-      | inl t ↦ rw t (all_left a os)
-      | inr f ↦ rw f (f, all_left a os)
+    all_left : (n : ℕ) (os : List OpenRecord) → AllByRecursion (λ o. (o.agent == n) ≡ false) (filter (λ o. not (names n o)) os)
+    all_left n [] = tt
+    all_left n (o ∷ os) = elim (cases_Bool (names n o)) [
+      | inl t ↦ rw t (all_left n os)
+      | inr f ↦ rw f ((no_part (o.agent == n) (o.controller == n) (no_part (o.handle == n) ((o.agent == n) || (o.controller == n)) f).1).0, all_left n os)
     ]
 
 -- the items that make an agent manage a handle are near it
 pub managed_near : (opens : List OpenRecord) (n : ℕ) → (n == 0) ≡ false → managers_of (filter (is_near n) opens) n ≡ managers_of opens n
 managed_near opens n z = ap (map manager_of) (filter_inside (is_near n) (manages n) (λ o h. controller_near n o z (second_part (is_for_driver o.attributes) (o.controller == n) h)) opens)
-
-pub no_part : (a b : Bool) → (a || b) ≡ false → (a ≡ false) × (b ≡ false)
-no_part true b h = cc
-no_part false b h = (refl, h)
 
 pub beside_near : (n : ℕ) (o : OpenRecord) → (n == 0) ≡ false → is_beside n o ≡ true → is_near n o ≡ true
 beside_near n o z h = elim (cases_Bool (o.handle == n)) [
@@ -72,16 +71,6 @@ beside_near n o z h = elim (cases_Bool (o.handle == n)) [
 pub named_beside : (n : ℕ) (opens : List OpenRecord) → AllByRecursion (λ o. (o.agent == n) ≡ false) opens → filter (λ o. not (is_beside n o)) opens ≡ filter (λ o. not (names n o)) opens
 named_beside n [] a = refl
 named_beside n (o ∷ os) a = rw a.0 (ap (λ r. cond (not (is_beside n o)) (o ∷ r) r) (named_beside n os a.1))
-
--- the items that name a handle, among them those of it as their agent
-pub agent_first : (n : ℕ) (opens : List OpenRecord) → filter (λ o. not (names n o)) (filter (λ o. not (is_of_agent n o)) opens) ≡ filter (λ o. not (names n o)) opens
-agent_first n opens = filter_inside (λ o. not (is_of_agent n o)) (λ o. not (names n o)) (λ o h. ap not (unnamed n o h)) opens
-  where
-    unnamed : (n : ℕ) (o : OpenRecord) → not (names n o) ≡ true → (o.agent == n) ≡ false
-    unnamed n o h = elim (cases_Bool (o.agent == n)) [
-      | inl e ↦ let t : names n o ≡ true = rw e (or_true (o.handle == n)) in let f : false ≡ true = sym (ap not t) ∙ h in absurd cc
-      | inr e ↦ e
-    ]
 
 -- a test that passes just items of an interface
 any_near : (n : ℕ) (guid : List ℕ) (q : OpenRecord → Bool) (opens : List OpenRecord)

@@ -11,7 +11,7 @@ use Rattle.open_agents.specs.Blocks.{FindsLast, NoneFrom, item_at, items_at, ite
 use Rattle.open_agents.proofs.Asked.{no_part}
 use Rattle.open_agents.proofs.Placed.{emptied, from_ascends, held_any, placed_items}
 
--- ---- the places of a block
+-- ---- the places near a handle
 
 -- once an item is gone, its place is the one that is missing
 places_left : (q : OpenRecord → Bool) (slots : List (Option OpenRecord)) (k at : ℕ) → slice_get (places_from 0 q slots) at ≡ Some k → places_from 0 q (set slots k None) ≡ remove (places_from 0 q slots) at
@@ -60,7 +60,7 @@ none_from p q slots k at e h =
 
 -- ---- all items
 
--- what is found in a block that has all items that pass a test
+-- what is found near a handle where all items that pass a test are
 pub finds_any : (p q : OpenRecord → Bool) (slots : List (Option OpenRecord)) (found : Option Found) → ((o : OpenRecord) → p o ≡ true → q o ≡ true) → FindsLast p slots (places_from 0 q slots) found → is_some found ≡ list_any p (items_in slots)
 finds_any p q slots (Some f) inside h = sym (held_any p slots f.place h.0)
 finds_any p q slots None inside h =

@@ -3,6 +3,6 @@ pub mod Asked
 pub mod Dropping
 pub mod ListedItems
 pub mod Managing
-pub mod Used
 pub mod LastItems
 pub mod Samples
+pub mod NearRuns

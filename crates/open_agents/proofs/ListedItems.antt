@@ -1,24 +1,25 @@
 -- The items of an interface at the places from one on, and items written over a buffer.
-use Rattle.std.proofs.Common.{◌≡◌, ℕ, zero, suc, ◌+◌, ◌<◌, true, false, List, [], ◌∷◌, ◌++◌, length, take, drop, set, get_or, Option, Some, None, refl, sym, ap, add-one, drop-cons}
+use Rattle.std.proofs.Common.{◌≡◌, ℕ, zero, suc, ◌+◌, ◌<◌, ◌≤◌, List, [], ◌∷◌, ◌++◌, length, take, drop, set, get_or, Option, Some, None, inl, inr, refl, sym, ap, add-one, drop-cons, arith}
+use Rattle.std.proofs.lemmas.Bool.{cases_Bool}
 use Rattle.guid_handles.specs.HandleTables.{written_over}
 use Rattle.open_agents.specs.declared.items.OpenRecord.{OpenRecord}
-use Rattle.open_agents.specs.OpenItems.{is_open_on, item_of, items_on}
+use Rattle.open_agents.specs.OpenItems.{is_open_on, items_on}
 use Rattle.open_agents.specs.Blocks.{item_at, items_at, with_first}
-
-pub one_more : (slots : List (Option OpenRecord)) (places : List ℕ) (i n : ℕ) (guid : List ℕ) (o : OpenRecord) → i < length places → item_at slots (get_or places i 0) ≡ Some o → is_open_on n guid o ≡ true →
-    items_on (items_at slots (drop i places)) n guid ≡ item_of o ∷ items_on (items_at slots (drop (i + 1) places)) n guid
-one_more slots places i n guid o l h t = rw (add-one, drop-cons places i 0) (rw h (rw t refl))
-
-pub other : (slots : List (Option OpenRecord)) (places : List ℕ) (i n : ℕ) (guid : List ℕ) (o : OpenRecord) → i < length places → item_at slots (get_or places i 0) ≡ Some o → is_open_on n guid o ≡ false →
-    items_on (items_at slots (drop i places)) n guid ≡ items_on (items_at slots (drop (i + 1) places)) n guid
-other slots places i n guid o l h t = rw (add-one, drop-cons places i 0) (rw h (rw t refl))
 
 pub next_there : (slots : List (Option OpenRecord)) (places : List ℕ) (i : ℕ) → i < length places → items_at slots (drop i places) ≡ with_first (item_at slots (get_or places i 0)) (items_at slots (drop (i + 1) places))
 next_there slots places i l = rw (add-one, drop-cons places i 0) refl
 
-pub vacant : (slots : List (Option OpenRecord)) (places : List ℕ) (i n : ℕ) (guid : List ℕ) → i < length places → item_at slots (get_or places i 0) ≡ None →
-    items_on (items_at slots (drop i places)) n guid ≡ items_on (items_at slots (drop (i + 1) places)) n guid
-vacant slots places i n guid l h = rw (add-one, drop-cons places i 0) (rw h refl)
+-- an interface has at most as many items as there are places
+pub few_items : (slots : List (Option OpenRecord)) (places : List ℕ) (n : ℕ) (guid : List ℕ) → length (items_on (items_at slots places) n guid) ≤ length places
+few_items slots [] n guid = omega arith
+few_items slots (k ∷ ks) n guid = few_first (item_at slots k) (few_items slots ks n guid)
+  where
+    few_first : (s : Option OpenRecord) → length (items_on (items_at slots ks) n guid) ≤ length ks → length (items_on (with_first s (items_at slots ks)) n guid) ≤ length (k ∷ ks)
+    few_first None h = omega (arith, h)
+    few_first (Some o) h = elim (cases_Bool (is_open_on n guid o)) [
+      | inl e ↦ rw e (omega (arith, h))
+      | inr e ↦ rw e (omega (arith, h))
+    ]
 
 -- a list with an item in it is not empty
 pub not_empty : {X : Type 0} (xs : List X) (y : X) (ys : List X) → xs ++ y ∷ ys ≡ [] → ⊥

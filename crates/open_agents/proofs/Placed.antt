@@ -1,20 +1,21 @@
--- The items at their places, and what keeps the places in blocks in step with them.
+-- The items at their places, and what keeps the lists of places in step with them.
 use Rattle.std.proofs.Math.ListN.{set}
-use Rattle.std.proofs.Common.{get_or, ◌≡◌, ℕ, zero, suc, ◌+◌, ◌<◌, ◌≤◌, ◌==◌, ◌&&◌, not, Bool, true, false, cond, List, [], ◌∷◌, ◌++◌, map, length, Option, Some, None, is_some, inl, inr, refl, sym, ap, ◌∙◌, arith, subst}
-use Rattle.std.specs.List.{filter, list_any, slice_get, AllByRecursion}
+use Rattle.std.proofs.Common.{get_or, ◌≡◌, ℕ, zero, suc, ◌+◌, ◌<◌, ◌≤◌, ◌==◌, ◌&&◌, ◌||◌, not, Bool, true, false, cond, List, [], ◌∷◌, ◌++◌, map, length, Option, Some, None, is_some, inl, inr, refl, sym, ap, ◌∙◌, arith, subst}
+use Rattle.std.specs.List.{filter, list_any, AllByRecursion}
 use Rattle.std.proofs.lemmas.List.{append-nil, length_push}
 use Rattle.std.proofs.lemmas.Bool.{cases_Bool, eq-eqb, ne_eqb}
 use Rattle.std.proofs.lemmas.Option.{same_Some}
 use Rattle.guid_handles.specs.HandleTables.{same_guid}
 use Rattle.guid_handles.specs.Sorting.{Ascending}
-use Rattle.guid_handles.proofs.SortedLists.{all_map, all_push, all_mapped, ascending_push, ascending_map}
+use Rattle.guid_handles.proofs.SortedLists.{all_both, all_map, ascending_filter, all_push, all_mapped, ascending_push, ascending_map}
 use Rattle.guid_handles.proofs.GuidOrder.{same_guid-true, and_false}
 use Rattle.guid_handles.proofs.Grouped.{is_same}
 use Rattle.open_agents.specs.declared.items.OpenRecord.{OpenRecord}
 use Rattle.open_agents.specs.OpenItems.{is_equal_item, counted, once_more}
-use Rattle.guid_handles.specs.Blocks.{Block, BlockGroup, ChangesBlock, ChangesBlocks, IsFree, block_at, with_last, without_place}
-use Rattle.open_agents.specs.Blocks.{HoldsAt, IsOpenStore, agent_block, are_equal, block_of, second_block, is_near, item_at, item_at_place, items_at, items_in, passes, places_from}
-use Rattle.open_agents.specs.Listed.{is_of_agent, items_of}
+use Rattle.guid_handles.specs.NumberLists.{ChangesLists, IsFree, list_of, with_last, without}
+use Rattle.guid_handles.specs.Places.{AddsPlaces, has_place}
+use Rattle.guid_handles.proofs.PlaceLists as places
+use Rattle.open_agents.specs.Blocks.{HoldsAt, IsOpenStore, are_equal, second_block, is_near, item_at, items_at, items_in, passes, places_from}
 
 -- ---- items by places
 
@@ -31,35 +32,9 @@ placed_items q all (Some o ∷ ss) i h =
       | inr e ↦ rw e rest
     ]
 
-pub store_near : (slots : List (Option OpenRecord)) (blocks agents : List BlockGroup) → IsOpenStore slots blocks agents → (n : ℕ) → items_at slots (block_at blocks n).places ≡ filter (is_near n) (items_in slots)
-store_near slots blocks agents h n =
-    ap (λ b. items_at slots b.places) (h.in_step n) ∙ placed_items (is_near n) slots slots 0 (λ k. ap (item_at slots) (omega arith))
-
-pub store_of_agent : (slots : List (Option OpenRecord)) (blocks agents : List BlockGroup) → IsOpenStore slots blocks agents → (a : ℕ) → items_at slots (block_at agents a).places ≡ items_of (items_in slots) a
-store_of_agent slots blocks agents h a =
-    ap (λ b. items_at slots b.places) (h.by_agent a) ∙ placed_items (is_of_agent a) slots slots 0 (λ k. ap (item_at slots) (omega arith))
-
-next_or_later : (all : List (Option OpenRecord)) (i : ℕ) (o : OpenRecord) (places : List ℕ) (os : List OpenRecord) → item_at all i ≡ Some o → ((m : ℕ) → item_at_place all (slice_get places m) ≡ slice_get os m)
-    → (n : ℕ) → item_at_place all (slice_get (i ∷ places) n) ≡ slice_get (o ∷ os) n
-next_or_later all i o places os first rest zero = first
-next_or_later all i o places os first rest (suc n) = rest n
-
--- at the place of each index is the item of that index
-placed_item : (q : OpenRecord → Bool) (all slots : List (Option OpenRecord)) (i : ℕ) → ((k : ℕ) → item_at all (i + k) ≡ item_at slots k) → (n : ℕ) → item_at_place all (slice_get (places_from i q slots) n) ≡ slice_get (filter q (items_in slots)) n
-placed_item q all [] i h zero = refl
-placed_item q all [] i h (suc n) = refl
-placed_item q all (None ∷ ss) i h n =
-    placed_item q all ss (i + 1) (λ k. ap (item_at all) (omega arith) ∙ h (suc k)) n
-placed_item q all (Some o ∷ ss) i h n =
-    let first : item_at all i ≡ Some o = ap (item_at all) (omega arith) ∙ h 0 in
-    let rest : (m : ℕ) → item_at_place all (slice_get (places_from (i + 1) q ss) m) ≡ slice_get (filter q (items_in ss)) m = placed_item q all ss (i + 1) (λ k. ap (item_at all) (omega arith) ∙ h (suc k)) in
-    elim (cases_Bool (q o)) [
-      | inl e ↦ rw e (next_or_later all i o (places_from (i + 1) q ss) (filter q (items_in ss)) first rest n)
-      | inr e ↦ rw e (rest n)
-    ]
-
-pub item_of_agent : (slots : List (Option OpenRecord)) (a n : ℕ) (places : List ℕ) → places ≡ places_from 0 (is_of_agent a) slots → item_at_place slots (slice_get places n) ≡ slice_get (items_of (items_in slots) a) n
-item_of_agent slots a n places e = ap (λ (ks : List ℕ). item_at_place slots (slice_get ks n)) e ∙ placed_item (is_of_agent a) slots slots 0 (λ k. ap (item_at slots) (omega arith)) n
+pub store_near : (slots : List (Option OpenRecord)) (near : List (ℕ × List ℕ)) (known : List ℕ) → IsOpenStore slots near known → (n : ℕ) → items_at slots (list_of near n) ≡ filter (is_near n) (items_in slots)
+store_near slots near known h n =
+    ap (items_at slots) (h.in_step n) ∙ placed_items (is_near n) slots slots 0 (λ k. ap (item_at slots) (omega arith))
 
 held_one : (p : OpenRecord → Bool) (s : Option OpenRecord) → passes p s ≡ true → (x : OpenRecord) × (s ≡ Some x) × (p x ≡ true)
 held_one p None h = absurd cc
@@ -188,25 +163,19 @@ places_other q (s ∷ ss) i (suc k) x e f = ap (λ r. cond (passes q s) (i ∷ r
 pub emptied : (q : OpenRecord → Bool) (slots : List (Option OpenRecord)) (k : ℕ) → filter (λ x. not (x == k)) (places_from 0 q slots) ≡ places_from 0 q (set slots k None)
 emptied q slots k = sym (places_vacated q slots 0 k ∙ ap (λ n. filter (λ x. not (x == n)) (places_from 0 q slots)) (omega arith))
 
-blocks_removed : (slots : List (Option OpenRecord)) (k : ℕ) (x : OpenRecord) (old new : List BlockGroup) → item_at slots k ≡ Some x → ((b : ℕ) → block_at old b ≡ block_of slots b)
-    → ChangesBlocks x.handle (second_block x) (without_place k) old new → (b : ℕ) → block_at new b ≡ block_of (set slots k None) b
-blocks_removed slots k x old new e h c b = elim (cases_Bool (is_near b x)) [
-  | inl t ↦ c b ∙ rw t (ap (without_place k) (h b) ∙ ap (λ r. record { number = b; places = r }) (emptied (is_near b) slots k))
-  | inr f ↦ c b ∙ rw f (h b ∙ ap (λ r. record { number = b; places = r }) (sym (places_other (is_near b) slots 0 k x e f)))
+near_removed : (slots : List (Option OpenRecord)) (k : ℕ) (x : OpenRecord) (old new : List (ℕ × List ℕ)) → item_at slots k ≡ Some x → ((n : ℕ) → list_of old n ≡ places_from 0 (is_near n) slots)
+    → ChangesLists x.handle (second_block x) (without k) old new → (n : ℕ) → list_of new n ≡ places_from 0 (is_near n) (set slots k None)
+near_removed slots k x old new e h c n = elim (cases_Bool (is_near n x)) [
+  | inl t ↦ c n ∙ rw t (ap (without k) (h n) ∙ emptied (is_near n) slots k)
+  | inr f ↦ c n ∙ rw f (h n ∙ sym (places_other (is_near n) slots 0 k x e f))
 ]
 
-agents_removed : (slots : List (Option OpenRecord)) (k : ℕ) (x : OpenRecord) (old new : List BlockGroup) → item_at slots k ≡ Some x → ((a : ℕ) → block_at old a ≡ agent_block slots a)
-    → ChangesBlock x.agent (without_place k) old new → (a : ℕ) → block_at new a ≡ agent_block (set slots k None) a
-agents_removed slots k x old new e h c a = elim (cases_Bool (is_of_agent a x)) [
-  | inl t ↦ c a ∙ rw t (ap (without_place k) (h a) ∙ ap (λ r. record { number = a; places = r }) (emptied (is_of_agent a) slots k))
-  | inr f ↦ c a ∙ rw f (h a ∙ ap (λ r. record { number = a; places = r }) (sym (places_other (is_of_agent a) slots 0 k x e f)))
-]
-
-pub store_removed : (slots : List (Option OpenRecord)) (k : ℕ) (x : OpenRecord) (old new old_agents agents : List BlockGroup) → IsOpenStore slots old old_agents → item_at slots k ≡ Some x
-    → ChangesBlocks x.handle (second_block x) (without_place k) old new → ChangesBlock x.agent (without_place k) old_agents agents → IsOpenStore (set slots k None) new agents
-store_removed slots k x old new old_agents agents h e c d = record {
-  in_step = blocks_removed slots k x old new e h.in_step c;
-  by_agent = agents_removed slots k x old_agents agents e h.by_agent d;
+pub store_removed : (slots : List (Option OpenRecord)) (k : ℕ) (x : OpenRecord) (old new : List (ℕ × List ℕ)) (known : List ℕ) → IsOpenStore slots old known → item_at slots k ≡ Some x
+    → ChangesLists x.handle (second_block x) (without k) old new → IsOpenStore (set slots k None) new known
+store_removed slots k x old new known h e c = record {
+  in_step = near_removed slots k x old new e h.in_step c;
+  ascending = h.ascending;
+  listed = all_vacated (λ o. has_place known o.agent ≡ true) slots k h.listed;
   distinct = ascending_vacated (λ o p. are_equal p o ≡ false) slots k h.distinct;
   agents = all_vacated (λ o. (o.agent == 0) ≡ false) slots k h.agents;
 }
@@ -220,13 +189,9 @@ from_ascends q (s ∷ ss) i =
       | inr e ↦ rw e rest
     ]
 
--- the places in a block ascend
-pub blocks_ascend : (slots : List (Option OpenRecord)) (blocks agents : List BlockGroup) → IsOpenStore slots blocks agents → (m : ℕ) → Ascending (λ x y. x < y) (block_at blocks m).places
-blocks_ascend slots blocks agents h m = subst (λ (b : Block). Ascending (λ x y. x < y) b.places) (sym (h.in_step m)) (from_ascends (is_near m) slots 0)
-
--- the places in the block of an agent ascend
-pub agents_ascend : (slots : List (Option OpenRecord)) (blocks agents : List BlockGroup) → IsOpenStore slots blocks agents → (a : ℕ) → Ascending (λ x y. x < y) (block_at agents a).places
-agents_ascend slots blocks agents h a = subst (λ (b : Block). Ascending (λ x y. x < y) b.places) (sym (h.by_agent a)) (from_ascends (is_of_agent a) slots 0)
+-- the places near a handle ascend
+pub near_ascends : (slots : List (Option OpenRecord)) (near : List (ℕ × List ℕ)) (known : List ℕ) → IsOpenStore slots near known → (m : ℕ) → Ascending (λ x y. x < y) (list_of near m)
+near_ascends slots near known h m = subst (Ascending (λ x y. x < y)) (sym (h.in_step m)) (from_ascends (is_near m) slots 0)
 
 -- ---- an item comes
 
@@ -251,11 +216,11 @@ places_pushed q (s ∷ ss) i o =
 filled : (q : OpenRecord → Bool) (slots : List (Option OpenRecord)) (o : OpenRecord) → places_from 0 q (slots ++ Some o ∷ []) ≡ places_from 0 q slots ++ cond (q o) (length slots ∷ []) []
 filled q slots o = places_pushed q slots 0 o ∙ ap (λ n. places_from 0 q slots ++ cond (q o) (n ∷ []) []) (omega arith)
 
-blocks_pushed : (slots : List (Option OpenRecord)) (o : OpenRecord) (old new : List BlockGroup) → ((b : ℕ) → block_at old b ≡ block_of slots b)
-    → ChangesBlocks o.handle (second_block o) (with_last (length slots)) old new → (b : ℕ) → block_at new b ≡ block_of (slots ++ Some o ∷ []) b
-blocks_pushed slots o old new h c b = elim (cases_Bool (is_near b o)) [
-  | inl t ↦ c b ∙ rw t (ap (with_last (length slots)) (h b) ∙ sym (rw (filled (is_near b) slots o, t) refl))
-  | inr f ↦ c b ∙ rw f (h b ∙ sym (rw (filled (is_near b) slots o, f, append-nil) refl))
+near_pushed : (slots : List (Option OpenRecord)) (o : OpenRecord) (old new : List (ℕ × List ℕ)) → ((n : ℕ) → list_of old n ≡ places_from 0 (is_near n) slots)
+    → ChangesLists o.handle (second_block o) (with_last (length slots)) old new → (n : ℕ) → list_of new n ≡ places_from 0 (is_near n) (slots ++ Some o ∷ [])
+near_pushed slots o old new h c n = elim (cases_Bool (is_near n o)) [
+  | inl t ↦ c n ∙ rw t (ap (with_last (length slots)) (h n) ∙ sym (rw (filled (is_near n) slots o, t) refl))
+  | inr f ↦ c n ∙ rw f (h n ∙ sym (rw (filled (is_near n) slots o, f, append-nil) refl))
 ]
 
 none_any : {X : Type 0} (p : X → Bool) (xs : List X) → list_any p xs ≡ false → AllByRecursion (λ x. p x ≡ false) xs
@@ -265,27 +230,62 @@ none_any p (x ∷ xs) h = elim (cases_Bool (p x)) [
   | inr e ↦ (e, none_any p xs (rw e at h))
 ]
 
-agents_pushed : (slots : List (Option OpenRecord)) (o : OpenRecord) (old new : List BlockGroup) → ((a : ℕ) → block_at old a ≡ agent_block slots a)
-    → ChangesBlock o.agent (with_last (length slots)) old new → (a : ℕ) → block_at new a ≡ agent_block (slots ++ Some o ∷ []) a
-agents_pushed slots o old new h c a = elim (cases_Bool (is_of_agent a o)) [
-  | inl t ↦ c a ∙ rw t (ap (with_last (length slots)) (h a) ∙ sym (rw (filled (is_of_agent a) slots o, t) refl))
-  | inr f ↦ c a ∙ rw f (h a ∙ sym (rw (filled (is_of_agent a) slots o, f, append-nil) refl))
-]
+-- ---- agents
 
-pub store_pushed : (slots : List (Option OpenRecord)) (o : OpenRecord) (old new old_agents agents : List BlockGroup) → IsOpenStore slots old old_agents → list_any (are_equal o) (items_in slots) ≡ false → (o.agent == 0) ≡ false
-    → ChangesBlocks o.handle (second_block o) (with_last (length slots)) old new → ChangesBlock o.agent (with_last (length slots)) old_agents agents → IsOpenStore (slots ++ Some o ∷ []) new agents
-store_pushed slots o old new old_agents agents h n a c d = record {
-  in_step = blocks_pushed slots o old new h.in_step c;
-  by_agent = agents_pushed slots o old_agents agents h.by_agent d;
+or_true : (a : Bool) → (a || true) ≡ true
+or_true true = refl
+or_true false = refl
+
+-- an agent more
+still_listed : (os : List OpenRecord) (a : ℕ) (old new : List ℕ) → AddsPlaces (λ k. a == k) old new → AllByRecursion (λ o. has_place old o.agent ≡ true) os → AllByRecursion (λ o. has_place new o.agent ≡ true) os
+still_listed os a old new c h = all_map (λ (o : OpenRecord). has_place old o.agent ≡ true) (λ (o : OpenRecord). has_place new o.agent ≡ true) (λ o t. c o.agent ∙ rw t refl) os h
+
+now_listed : (a : ℕ) (old new : List ℕ) → AddsPlaces (λ k. a == k) old new → has_place new a ≡ true
+now_listed a old new c = c a ∙ ap (λ b. has_place old a || b) (eq-eqb a a refl) ∙ or_true (has_place old a)
+
+-- where a handle is not among them, no item is of it
+pub none_listed : (os : List OpenRecord) (known : List ℕ) (a : ℕ) → AllByRecursion (λ o. has_place known o.agent ≡ true) os → has_place known a ≡ false → AllByRecursion (λ o. (o.agent == a) ≡ false) os
+none_listed [] known a h n = tt
+none_listed (o ∷ os) known a h n = (
+  elim (cases_Bool (o.agent == a)) [
+    | inl e ↦
+        let same : o.agent ≡ a = is_same o.agent a e in
+        let w : true ≡ false = sym h.0 ∙ ap (has_place known) same ∙ n in
+        absurd cc
+    | inr e ↦ e
+  ],
+  none_listed os known a h.1 n,
+)
+
+pub store_pushed : (slots : List (Option OpenRecord)) (o : OpenRecord) (old new : List (ℕ × List ℕ)) (known more : List ℕ) → IsOpenStore slots old known → list_any (are_equal o) (items_in slots) ≡ false → (o.agent == 0) ≡ false
+    → Ascending (λ a b. a < b) more → AddsPlaces (λ k. o.agent == k) known more → ChangesLists o.handle (second_block o) (with_last (length slots)) old new → IsOpenStore (slots ++ Some o ∷ []) new more
+store_pushed slots o old new known more h n a s d c = record {
+  in_step = near_pushed slots o old new h.in_step c;
+  ascending = s;
+  listed = rw (items_pushed slots o) (all_push (λ p. has_place more p.agent ≡ true) (items_in slots) o (still_listed (items_in slots) o.agent known more d h.listed) (now_listed o.agent known more d));
   distinct = rw (items_pushed slots o) (ascending_push (λ p q. are_equal q p ≡ false) (items_in slots) o h.distinct (none_any (are_equal o) (items_in slots) n));
   agents = rw (items_pushed slots o) (all_push (λ p. (p.agent == 0) ≡ false) (items_in slots) o h.agents a);
 }
 
--- where no block changed
-pub store_stays : (slots : List (Option OpenRecord)) (old new agents : List BlockGroup) → IsOpenStore slots old agents → ((m : ℕ) → block_at new m ≡ block_at old m) → IsOpenStore slots new agents
-store_stays slots old new agents h s = record {
-  in_step = λ b. s b ∙ h.in_step b;
-  by_agent = h.by_agent;
+-- where no list changed, and an agent more is known
+pub store_stays : (slots : List (Option OpenRecord)) (a : ℕ) (old new : List (ℕ × List ℕ)) (known more : List ℕ) → IsOpenStore slots old known → ((m : ℕ) → list_of new m ≡ list_of old m)
+    → Ascending (λ x y. x < y) more → AddsPlaces (λ k. a == k) known more → IsOpenStore slots new more
+store_stays slots a old new known more h s o d = record {
+  in_step = λ n. s n ∙ h.in_step n;
+  ascending = o;
+  listed = still_listed (items_in slots) a known more d h.listed;
+  distinct = h.distinct;
+  agents = h.agents;
+}
+
+-- an agent of no item is forgotten
+pub store_forgets : (slots : List (Option OpenRecord)) (a : ℕ) (near : List (ℕ × List ℕ)) (known : List ℕ) → IsOpenStore slots near known → AllByRecursion (λ o. (o.agent == a) ≡ false) (items_in slots)
+    → IsOpenStore slots near (filter (λ x. not (x == a)) known)
+store_forgets slots a near known h n = record {
+  in_step = h.in_step;
+  ascending = ascending_filter (λ x y. x < y) (λ x. not (x == a)) known h.ascending;
+  listed = all_both (λ (o : OpenRecord). has_place known o.agent ≡ true) (λ (o : OpenRecord). (o.agent == a) ≡ false) (λ (o : OpenRecord). has_place (filter (λ x. not (x == a)) known) o.agent ≡ true)
+      (λ o t f. places.any_kept (λ x. not (x == a)) known o.agent ∙ rw (t, f) refl) (items_in slots) h.listed n;
   distinct = h.distinct;
   agents = h.agents;
 }
@@ -294,11 +294,12 @@ set_end : (slots : List (Option OpenRecord)) → set slots (length slots) None �
 set_end [] = refl
 set_end (s ∷ ss) = ap (λ r. s ∷ r) (set_end ss)
 
--- the next place is in no block
-pub next_free : (slots : List (Option OpenRecord)) (blocks agents : List BlockGroup) → IsOpenStore slots blocks agents → IsFree (length slots) blocks
-next_free slots blocks agents h m =
-    ap (without_place (length slots)) (h.in_step m)
-    ∙ ap (λ r. record { number = m; places = r }) (emptied (is_near m) slots (length slots) ∙ ap (places_from 0 (is_near m)) (set_end slots))
+-- the next place is in no list
+pub next_free : (slots : List (Option OpenRecord)) (near : List (ℕ × List ℕ)) (known : List ℕ) → IsOpenStore slots near known → IsFree (length slots) near
+next_free slots near known h m =
+    ap (without (length slots)) (h.in_step m)
+    ∙ emptied (is_near m) slots (length slots)
+    ∙ ap (places_from 0 (is_near m)) (set_end slots)
     ∙ sym (h.in_step m)
 
 -- ---- items that go over to fresh places
@@ -410,15 +411,16 @@ places_set q (None ∷ ss) i zero x y e s = absurd cc
 places_set q (Some o ∷ ss) i zero x y e s = let n : q y ≡ q o = s ∙ sym (ap q (same_Some o x e)) in ap (λ c. cond c (i ∷ places_from (i + 1) q ss) (places_from (i + 1) q ss)) n
 places_set q (z ∷ ss) i (suc k) x y e s = ap (λ r. cond (passes q z) (i ∷ r) r) (places_set q ss (i + 1) k x y e s)
 
-pub store_counted : (n : ℕ) (guid : List ℕ) (agent controller a : ℕ) (slots : List (Option OpenRecord)) (k : ℕ) (x : OpenRecord) (blocks agents : List BlockGroup) → IsOpenStore slots blocks agents → item_at slots k ≡ Some x
-    → is_equal_item n guid agent controller a x ≡ true → IsOpenStore (set slots k (Some (record x { count = once_more x.count }))) blocks agents
-store_counted n guid agent controller a slots k x blocks agents h e t =
+pub store_counted : (n : ℕ) (guid : List ℕ) (agent controller a : ℕ) (slots : List (Option OpenRecord)) (k : ℕ) (x : OpenRecord) (near : List (ℕ × List ℕ)) (known : List ℕ) → IsOpenStore slots near known → item_at slots k ≡ Some x
+    → is_equal_item n guid agent controller a x ≡ true → IsOpenStore (set slots k (Some (record x { count = once_more x.count }))) near known
+store_counted n guid agent controller a slots k x near known h e t =
     let q : OpenRecord → Bool = is_equal_item n guid agent controller a in
     let y : OpenRecord = record x { count = once_more x.count } in
     let one : map (counted q) (items_in slots) ≡ items_in (set slots k (Some y)) = one_counted n guid agent controller a slots k x h.distinct e t in
     record {
-      in_step = λ b. h.in_step b ∙ ap (λ r. record { number = b; places = r }) (sym (places_set (is_near b) slots 0 k x y e refl));
-      by_agent = λ b. h.by_agent b ∙ ap (λ r. record { number = b; places = r }) (sym (places_set (is_of_agent b) slots 0 k x y e refl));
+      in_step = λ m. h.in_step m ∙ sym (places_set (is_near m) slots 0 k x y e refl);
+      ascending = h.ascending;
+      listed = subst (AllByRecursion (λ (o : OpenRecord). has_place known o.agent ≡ true)) one (all_mapped (λ (o : OpenRecord). has_place known o.agent ≡ true) (λ (o : OpenRecord). has_place known o.agent ≡ true) (counted q) (λ o f. ap (has_place known) (counted_agent q o) ∙ f) (items_in slots) h.listed);
       distinct = subst (Ascending (λ o p. are_equal p o ≡ false)) one (ascending_map (λ o p. are_equal p o ≡ false) (λ o p. are_equal p o ≡ false) (counted q) (λ o p f. counted_equal q p o ∙ f) (items_in slots) h.distinct);
       agents = subst (AllByRecursion (λ o. (o.agent == 0) ≡ false)) one (all_mapped (λ o. (o.agent == 0) ≡ false) (λ o. (o.agent == 0) ≡ false) (counted q) (λ o f. ap (λ m. m == 0) (counted_agent q o) ∙ f) (items_in slots) h.agents);
     }

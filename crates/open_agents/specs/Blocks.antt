@@ -1,17 +1,13 @@
--- The open items at their places, and where those on each handle and of each controller are, in
--- a block of its number.
-use Rattle.std.specs.Prelude.{◌≡◌, ℕ, ◌+◌, ◌==◌, ◌||◌, ◌&&◌, Bool, true, false, cond, drop, List, [], ◌∷◌, Option, Some, None, slice_get, slice_index_or, IfSome, IfNone}
+-- The open items at their places, and where those on each handle and of each controller are.
+use Rattle.std.specs.Prelude.{◌≡◌, ℕ, ◌+◌, ◌<◌, ◌==◌, ◌||◌, ◌&&◌, Bool, true, false, cond, drop, List, [], ◌∷◌, Option, Some, None, slice_get, slice_index_or, IfSome, IfNone}
 use Rattle.std.specs.List.{list_any, AllByRecursion}
 use Rattle.guid_handles.specs.Sorting.{Ascending}
-use Rattle.guid_handles.specs.Blocks.{Block, BlockGroup, block_at}
+use Rattle.guid_handles.specs.NumberLists.{list_of}
 use Rattle.guid_handles.specs.Places.{has_place}
 use Rattle.open_agents.specs.declared.items.OpenRecord.{OpenRecord}
 use Rattle.open_agents.specs.declared.near.Near.{Near}
 use Rattle.open_agents.specs.declared.near.Found.{Found}
-use Rattle.open_agents.specs.declared.near.BlockOf.{BlockOf}
-use Rattle.open_agents.specs.declared.near.BlockOf.TheVariants.{Agent, Handle}
 use Rattle.open_agents.specs.OpenItems.{is_equal_item}
-use Rattle.open_agents.specs.Listed.{is_of_agent}
 
 -- ---- items at places
 
@@ -32,15 +28,6 @@ item_at slots at = slice_index_or slots at None
 abbrev pub items_at : List (Option OpenRecord) → List ℕ → List OpenRecord
 items_at slots [] = []
 items_at slots (k ∷ ks) = with_first (item_at slots k) (items_at slots ks)
-
--- the item at a place, if there is such a place
-abbrev pub item_at_place : List (Option OpenRecord) → Option ℕ → Option OpenRecord
-item_at_place slots None = None
-item_at_place slots (Some k) = item_at slots k
-
--- the item at the place of an index
-abbrev pub nth_near : Near → ℕ → Option OpenRecord
-nth_near near index = item_at_place near.slots.now (slice_get near.places.now index)
 
 -- the items near a handle
 abbrev pub items_near : Near → List OpenRecord
@@ -100,7 +87,7 @@ places_from k p [] = []
 places_from k p (s ∷ ss) =
     cond (passes p s) (k ∷ places_from (k + 1) p ss) (places_from (k + 1) p ss)
 
--- ---- blocks
+-- ---- near a handle
 
 -- the controller of an item, or its handle where it has none
 abbrev pub second_block : OpenRecord → ℕ
@@ -114,30 +101,16 @@ is_near n o = (o.handle == n) || (second_block o == n)
 abbrev pub is_beside : ℕ → OpenRecord → Bool
 is_beside n o = (o.handle == n) || (o.controller == n)
 
--- an item is in the block of a handle, or in that of an agent
-abbrev pub is_in_block : BlockOf → OpenRecord → Bool
-is_in_block (Handle n) = is_near n
-is_in_block (Agent a) = is_of_agent a
-
--- ---- in step with the items
-
--- the block of a number, of items at their places
-abbrev pub block_of : List (Option OpenRecord) → ℕ → Block
-block_of slots b = record { number = b; places = places_from 0 (is_near b) slots }
-
--- the block of an agent, of its items at their places
-abbrev pub agent_block : List (Option OpenRecord) → ℕ → Block
-agent_block slots a = record { number = a; places = places_from 0 (is_of_agent a) slots }
-
 -- two items have the same interface, agent, controller and attributes
 abbrev pub are_equal : OpenRecord → OpenRecord → Bool
 are_equal o p = is_equal_item o.handle o.guid o.agent o.controller o.attributes p
 
--- Items, no two of which are equal and each of which has an agent, at their places; these places in
--- blocks, and by agents.
-pub record IsOpenStore (slots : List (Option OpenRecord))
-    (blocks agent_blocks : List BlockGroup) : Type 0 where
-  pub in_step : (b : ℕ) → block_at blocks b ≡ block_of slots b
-  pub by_agent : (a : ℕ) → block_at agent_blocks a ≡ agent_block slots a
+-- Items, no two of which are equal and each of which has an agent, at their places; these places by
+-- handle and controller; and numbers that have the agents of all items among them.
+pub record IsOpenStore (slots : List (Option OpenRecord)) (near : List (ℕ × List ℕ))
+    (known : List ℕ) : Type 0 where
+  pub in_step : (n : ℕ) → list_of near n ≡ places_from 0 (is_near n) slots
+  pub ascending : Ascending (λ a b. a < b) known
+  pub listed : AllByRecursion (λ o. has_place known o.agent ≡ true) (items_in slots)
   pub distinct : Ascending (λ o p. are_equal p o ≡ false) (items_in slots)
   pub agents : AllByRecursion (λ o. (o.agent == 0) ≡ false) (items_in slots)

@@ -1,4 +1,5 @@
 pub mod OpenItems
 pub mod OpenRule
+pub mod OpenRequests
 pub mod Blocks
 pub mod Listed

@@ -2,7 +2,7 @@
 use Rattle.std.specs.Prelude.{ℕ, ◌+◌, ◌-◌, ◌^◌, min, ◌==◌, ◌&&◌, ◌||◌, not, Bool, cond, List, [], ◌∷◌, ◌++◌, map}
 use Rattle.std.specs.List.{filter, list_any}
 use Rattle.guid_handles.specs.HandleTables.{same_guid}
-use Rattle.open_agents.specs.declared.items.Manager.{Manager}
+use Rattle.guid_handles.specs.declared.records.Pair.{Pair}
 use Rattle.open_agents.specs.declared.items.OpenRecord.{OpenRecord}
 use Rattle.open_agents.specs.declared.items.OpenItem.{OpenItem}
 
@@ -81,11 +81,11 @@ abbrev pub is_kept : List OpenRecord → ℕ → List ℕ → Bool
 is_kept opens n guid = list_any (λ i. keeps i.attributes) (items_on opens n guid)
 
 -- the controller and the agent of an item
-abbrev pub manager_of : OpenRecord → Manager
+abbrev pub manager_of : OpenRecord → Pair
 manager_of o = record { controller = o.controller; agent = o.agent }
 
 -- the controller and the agent of each item that makes the agent manage a handle
-abbrev pub managers_of : List OpenRecord → ℕ → List Manager
+abbrev pub managers_of : List OpenRecord → ℕ → List Pair
 managers_of opens n = map manager_of (filter (manages n) opens)
 
 -- an item makes its agent manage one of some handles
@@ -93,7 +93,7 @@ abbrev pub manages_any : List ℕ → OpenRecord → Bool
 manages_any ns o = is_for_driver o.attributes && list_any (λ n. o.controller == n) ns
 
 -- the controller and the agent of each item that makes the agent manage one of some handles
-abbrev pub managers_of_any : List OpenRecord → List ℕ → List Manager
+abbrev pub managers_of_any : List OpenRecord → List ℕ → List Pair
 managers_of_any opens ns = map manager_of (filter (manages_any ns) opens)
 
 -- ---- what changes

@@ -1,9 +1,9 @@
 //! Tests of items, and the last item that passes one.
-ghost use Rattle.std.specs.Prelude.{◌≡◌, ◌≤◌, ◌||◌, ◌==◌, Bool, length};
+ghost use Rattle.std.specs.Prelude.{◌≡◌, ◌+◌, ◌≤◌, ◌||◌, ◌==◌, Bool, drop, false, length, IfSome, IfNone};
+ghost use Rattle.std.specs.List.{list_any};
 ghost use Rattle.open_agents.specs.OpenItems as spec;
 ghost use Rattle.open_agents.specs.OpenItems.{is_closed_by};
-ghost use Rattle.open_agents.specs.Listed as listed;
-ghost use Rattle.open_agents.specs.Blocks.{FindsLast, NoneFrom, is_beside};
+ghost use Rattle.open_agents.specs.Blocks.{FindsLast, HoldsAt, NoneFrom, is_beside, items_in};
 
 use crate::items::{OpenRecord, is_of_pair, is_open_on};
 use crate::near::{Found, Near, item_at};
@@ -52,17 +52,17 @@ impl ItemTest for OfPair {
     }
 }
 
-/// Being of an agent.
+/// Naming a handle.
 #[derive(Clone, Copy)]
-pub(crate) struct OfAgent {
-    pub(crate) agent: u64,
+pub(crate) struct Names {
+    pub(crate) handle: u64,
 }
 
-impl ItemTest for OfAgent {
-    ghost meaning = { λ t. listed.is_of_agent t.agent };
+impl ItemTest for Names {
+    ghost meaning = { λ t. spec.names t.handle };
 
     fn passes(&self, o: &OpenRecord) -> bool {
-        o.agent == self.agent
+        o.handle == self.handle || o.agent == self.handle || o.controller == self.handle
     }
 }
 
@@ -106,6 +106,29 @@ pub(crate) fn find_last_passing<T: ItemTest>(near: Near<'_>, end: usize, test: &
         if let Some(o) = item_at(near.slots, place) {
             if test.passes(o) {
                 return Some(Found { index, place });
+            }
+        }
+    }
+    None
+}
+
+/// The place of the last item that passes a test, where none does at a place from `end` on.
+pub(crate) fn find_last_of<T: ItemTest>(
+    slots: &[Option<OpenRecord>],
+    end: usize,
+    test: &T,
+) -> Option<usize>
+    requires bound { end ≤ length slots.now }
+    requires behind { list_any (T.meaning test.now) (items_in (drop end slots.now)) ≡ false }
+    ensures there { IfSome result (HoldsAt (T.meaning test.now) slots.now) }
+    ensures last { IfSome result
+        (λ k. list_any (T.meaning test.now) (items_in (drop (k + 1) slots.now)) ≡ false) }
+    ensures none { IfNone result (list_any (T.meaning test.now) (items_in slots.now) ≡ false) }
+{
+    for at in (0..end).rev() {
+        if let Some(o) = &slots[at] {
+            if test.passes(o) {
+                return Some(at);
             }
         }
     }

@@ -1,9 +1,10 @@
 //! Open items, and what may be decided about a call of OpenProtocol.
 ghost use Rattle.std.specs.Prelude.{◌≡◌};
 ghost use Rattle.open_agents.specs.OpenItems as spec;
+ghost use Rattle.open_agents.specs.OpenRequests.{asks_for};
 
 use crate::attributes::is_for_driver;
-use guid_handles::is_same_guid;
+use guid_handles::{Pair, is_same_guid};
 use page_ranges::Status;
 use uuid::Uuid;
 
@@ -20,14 +21,25 @@ pub struct OpenRecord {
 
 impl OpenRecord {
     /// The controller and the agent of the item.
-    pub fn manager(&self) -> Manager
+    pub fn manager(&self) -> Pair
         ensures { result ≡ spec.manager_of self.now }
     {
-        Manager {
+        Pair {
             controller: self.controller,
             agent: self.agent,
         }
     }
+}
+
+/// What a call of OpenProtocol asks for: the interface of a GUID on a handle, an agent, a controller and
+/// attributes.
+#[derive(Clone, Copy)]
+pub struct OpenRequest {
+    pub handle: u64,
+    pub guid: Uuid,
+    pub agent: u64,
+    pub controller: u64,
+    pub attributes: u32,
 }
 
 /// An item of an interface, as OpenProtocolInformation lists it: an EFI_OPEN_PROTOCOL_INFORMATION_ENTRY.
@@ -38,13 +50,6 @@ pub struct OpenItem {
     pub controller: u64,
     pub attributes: u32,
     pub count: u32,
-}
-
-/// An agent that manages a controller: it has an interface open for a driver, with this controller.
-#[derive(Clone, Copy, Debug, PartialEq, Eq)]
-pub struct Manager {
-    pub controller: u64,
-    pub agent: u64,
 }
 
 /// How an interface is open, as far as its removal goes.
@@ -68,7 +73,7 @@ pub enum Decision {
     /// A new item is made.
     Add,
     /// A new item is made once the manager that has the interface open was stopped.
-    StopFirst(Manager),
+    StopFirst(Pair),
 }
 
 /// Whether an item is on the interface of a GUID on a handle.
@@ -86,17 +91,12 @@ pub(crate) fn is_of_pair(o: &OpenRecord, controller: u64, agent: u64) -> bool
 }
 
 /// Whether an item is equal to what a call asks for.
-pub(crate) fn is_equal_item(
-    o: &OpenRecord,
-    handle: u64,
-    guid: Uuid,
-    agent: u64,
-    controller: u64,
-    attributes: u32,
-) -> bool
-    ensures { result ≡ spec.is_equal_item handle guid agent controller attributes o.now }
+pub(crate) fn is_equal_item(o: &OpenRecord, request: &OpenRequest) -> bool
+    ensures { result ≡ asks_for request.now o.now }
 {
-    is_of_pair(o, controller, agent) && o.attributes == attributes && is_open_on(o, handle, guid)
+    is_of_pair(o, request.controller, request.agent)
+        && o.attributes == request.attributes
+        && is_open_on(o, request.handle, request.guid)
 }
 
 /// A count that rises by 1, but stays at its end.

@@ -15,6 +15,6 @@ pub use attributes::{
     BY_CHILD_CONTROLLER, BY_DRIVER, BY_HANDLE_PROTOCOL, EXCLUSIVE, GET_PROTOCOL, TEST_PROTOCOL,
     is_for_driver,
 };
-pub use items::{Decision, Manager, OpenItem, OpenRecord, Usage};
-pub use near::{Near, item_at};
+pub use items::{Decision, OpenItem, OpenRecord, OpenRequest, Usage};
+pub use near::{Items, Near, item_at};
 pub use opens::Opens;

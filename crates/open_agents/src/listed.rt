@@ -5,7 +5,7 @@ ghost use Rattle.open_agents.specs.Blocks.{items_near};
 ghost use Rattle.open_agents.specs.OpenItems.{items_on};
 
 use crate::items::{OpenItem, is_open_on, item_of};
-use crate::near::{Near, item_at};
+use crate::near::Near;
 use crate::opens::Opens;
 use std::alloc::Allocator;
 use uuid::Uuid;
@@ -33,14 +33,12 @@ fn nth_near(near: Near<'_>, handle: u64, guid: Uuid, index: usize) -> Option<Ope
     ensures { result ≡ slice_get (items_on (items_near near.entry) handle guid) index }
 {
     let mut left = index;
-    for place in near.places {
-        if let Some(o) = item_at(near.slots, *place) {
-            if is_open_on(o, handle, guid) {
-                if left == 0 {
-                    return Some(item_of(o));
-                }
-                left -= 1;
+    for o in near.items() {
+        if is_open_on(o, handle, guid) {
+            if left == 0 {
+                return Some(item_of(o));
             }
+            left -= 1;
         }
     }
     None
@@ -53,12 +51,10 @@ fn write_near(near: Near<'_>, handle: u64, guid: Uuid, out: &mut [OpenItem]) -> 
         ≡ written_over (items_on (items_near near.entry) handle guid) out.old }
 {
     let mut count = 0;
-    for place in near.places {
-        if let Some(o) = item_at(near.slots, *place) {
-            if is_open_on(o, handle, guid) {
-                put_item(out, count, item_of(o));
-                count += 1;
-            }
+    for o in near.items() {
+        if is_open_on(o, handle, guid) {
+            put_item(out, count, item_of(o));
+            count += 1;
         }
     }
     count

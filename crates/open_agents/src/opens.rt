@@ -7,23 +7,25 @@ ghost use Rattle.open_agents.specs.OpenItems as spec;
 ghost use Rattle.open_agents.specs.OpenItems.{is_closed_by, names, items_on, managers_of, managers_of_any, with_item, without_items};
 ghost use Rattle.open_agents.specs.OpenRule as rule;
 ghost use Rattle.open_agents.specs.OpenRule.{has_equal};
+ghost use Rattle.open_agents.specs.OpenRequests.{decision_on, is_among, with_request};
 ghost use Rattle.open_agents.specs.Blocks.{is_near, items_in, items_near};
-ghost use Rattle.open_agents.specs.Listed.{is_of_agent, items_of};
+ghost use Rattle.open_agents.specs.Listed.{items_of};
 
 use crate::attributes::{
     BY_CHILD_CONTROLLER, BY_DRIVER, EXCLUSIVE, is_exclusive, is_for_driver, is_known, needs_agent,
     needs_controller,
 };
-use crate::item_tests::{Beside, Closed, OfAgent, OfPair, OpenOn};
-use crate::items::{Decision, Manager, OpenItem, OpenRecord, Usage, is_open_on, item_of, manages};
+use crate::item_tests::{Beside, Closed, Names, OfPair, OpenOn};
+use crate::items::{
+    Decision, OpenItem, OpenRecord, OpenRequest, Usage, is_open_on, item_of, manages,
+};
 use crate::managers;
-use crate::near::{BlockOf, Near, item_at};
+use crate::near::Near;
 use crate::questions::{
-    find_equal, find_last_naming, first_driver_item, has_equal, has_exclusive, has_of_agent,
-    is_held, usage_near,
+    find_equal, first_driver_item, has_equal, has_exclusive, has_of_agent, is_held, usage_near,
 };
 use crate::store::ItemStore;
-use guid_handles::Handles;
+use guid_handles::{Handles, Pair};
 use page_ranges::Status;
 use std::alloc::{AllocError, Allocator, Global};
 use std::marker::Model;
@@ -114,10 +116,14 @@ impl<A: Allocator + Copy> Opens<A> {
         ensures { result
             ≡ rule.open_rule handles.now self.now handle guid agent controller attributes }
     {
-        let installed = handles.interface(handle, guid).is_some();
-        self.decide_installed(
-            handles, installed, handle, guid, agent, controller, attributes,
-        )
+        let request = OpenRequest {
+            handle,
+            guid,
+            agent,
+            controller,
+            attributes,
+        };
+        self.decide_installed(handles, handles.interface(handle, guid).is_some(), &request)
     }
 
     /// What `decide` returns, where it is known whether the handle carries the GUID.
@@ -125,43 +131,21 @@ impl<A: Allocator + Copy> Opens<A> {
         &self,
         handles: &Handles<A>,
         installed: bool,
-        handle: u64,
-        guid: Uuid,
-        agent: u64,
-        controller: u64,
-        attributes: u32,
+        request: &OpenRequest,
     ) -> Decision
-        requires { installed ≡ carries handles.now guid handle }
-        ensures { result
-            ≡ rule.open_rule handles.now self.now handle guid agent controller attributes }
+        requires { installed ≡ carries handles.now request.now.guid request.now.handle }
+        ensures { result ≡ decision_on handles.now self.now request.now }
     {
         // No item is of agent 0.
         let _slots = self.items.slots();
-        if agent != 0 {
-            return decide_among(
-                handles,
-                installed,
-                self.near(handle),
-                handle,
-                guid,
-                agent,
-                controller,
-                attributes,
-            );
+        if request.agent != 0 {
+            return decide_among(handles, installed, self.near(request.handle), request);
         }
-        decide_among(
-            handles,
-            installed,
-            Near {
-                slots: &[],
-                places: &[],
-            },
-            handle,
-            guid,
-            agent,
-            controller,
-            attributes,
-        )
+        let none = Near {
+            slots: &[],
+            places: &[],
+        };
+        decide_among(handles, installed, none, request)
     }
 
     /// Closes all items of an agent and a controller on an interface, and returns whether there
@@ -177,55 +161,38 @@ impl<A: Allocator + Copy> Opens<A> {
             agent,
             controller,
         };
-        self.items.drop_passing(BlockOf::Handle(handle), &closed)
+        self.items.drop_passing(handle, &closed)
     }
 
     /// Removes all items of a controller and an agent.
     pub fn drop_pair(&mut self, controller: u64, agent: u64)
         ensures { self.new ≡ without_items (spec.is_of_pair controller agent) self.old }
     {
+        let pair = OfPair { controller, agent };
         if controller == 0 {
-            self.drop_pair_of_agent(controller, agent);
+            self.items.drop_anywhere(&pair);
         } else {
-            self.drop_pair_near(controller, agent);
+            self.items.drop_passing(controller, &pair);
         }
-    }
-
-    /// Removes all items of a controller and an agent, looked for near the controller.
-    fn drop_pair_near(&mut self, controller: u64, agent: u64)
-        requires { (controller == 0) ≡ false }
-        ensures { self.new ≡ without_items (spec.is_of_pair controller agent) self.old }
-    {
-        self.items
-            .drop_passing(BlockOf::Handle(controller), &OfPair { controller, agent });
-    }
-
-    /// Removes all items of a controller and an agent, looked for among those of the agent.
-    fn drop_pair_of_agent(&mut self, controller: u64, agent: u64)
-        ensures { self.new ≡ without_items (spec.is_of_pair controller agent) self.old }
-    {
-        self.items
-            .drop_passing(BlockOf::Agent(agent), &OfPair { controller, agent });
     }
 
     /// Removes all items that name a handle, as their handle, agent or controller.
     pub fn drop_handle(&mut self, handle: u64)
         ensures { self.new ≡ without_items (names handle) self.old }
     {
-        if handle == 0 {
-            self.drop_naming_among_all(handle);
-        } else {
+        if handle == 0 || self.items.may_be_agent(handle) {
             self.drop_agent(handle);
+        } else {
             self.drop_naming_near(handle);
         }
     }
 
-    /// Removes all items of an agent.
-    fn drop_agent(&mut self, agent: u64)
-        ensures { self.new ≡ without_items (is_of_agent agent) self.old }
+    /// Removes all items that name a handle, looked for among all.
+    fn drop_agent(&mut self, handle: u64)
+        ensures { self.new ≡ without_items (names handle) self.old }
     {
-        self.items
-            .drop_passing(BlockOf::Agent(agent), &OfAgent { agent });
+        self.items.drop_anywhere(&Names { handle });
+        self.items.forget_agent(handle);
     }
 
     /// Removes all items that name a handle, which is the agent of none, looked for near it.
@@ -234,27 +201,14 @@ impl<A: Allocator + Copy> Opens<A> {
         requires agent { AllByRecursion (λ o. (o.agent == handle) ≡ false) self.old }
         ensures { self.new ≡ without_items (names handle) self.old }
     {
-        self.items
-            .drop_passing(BlockOf::Handle(handle), &Beside { handle });
-    }
-
-    /// Removes all items that name a handle, looked for among all.
-    fn drop_naming_among_all(&mut self, handle: u64)
-        ensures { self.new ≡ without_items (names handle) self.old }
-    {
-        let mut end = self.items.slots().len();
-        while let Some(place) = find_last_naming(self.items.slots(), end, handle) {
-            self.items.remove(place);
-            end = place;
-        }
+        self.items.drop_passing(handle, &Beside { handle });
     }
 
     /// Removes all items of an interface.
     pub fn drop_interface(&mut self, handle: u64, guid: Uuid)
         ensures { self.new ≡ without_items (spec.is_open_on handle guid) self.old }
     {
-        self.items
-            .drop_passing(BlockOf::Handle(handle), &OpenOn { handle, guid });
+        self.items.drop_passing(handle, &OpenOn { handle, guid });
     }
 
     /// Removes the items that were made last, and leaves a number of those made first. This takes no memory.
@@ -281,43 +235,49 @@ impl<A: Allocator + Copy> Opens<A> {
             → IsOk result }
         ensures no_agent { agent ≡ 0 → IsOk result }
     {
+        self.add_request(&OpenRequest {
+            handle,
+            guid,
+            agent,
+            controller,
+            attributes,
+        })
+    }
+
+    /// What `add` does, of a call as one value.
+    pub fn add_request(&mut self, request: &OpenRequest) -> Result<(), AllocError>
+        ensures ok { OnOk result (self.new ≡ with_request request.now self.old) }
+        ensures err { OnErr result (self.new ≡ self.old) }
+        ensures counts { is_among self.old request.now ≡ true → IsOk result }
+        ensures no_agent { request.now.agent ≡ 0 → IsOk result }
+    {
         // No item is of agent 0.
         let _slots = self.items.slots();
-        if agent == 0 {
+        if request.agent == 0 {
             return Ok(());
         }
-        let near = self.items.near(handle);
-        if let Some(place) = find_equal(near, handle, guid, agent, controller, attributes) {
-            self.items
-                .count_at(place, handle, guid, agent, controller, attributes);
+        if let Some(place) = find_equal(self.items.near(request.handle), request) {
+            self.items.count_at(place, request);
             return Ok(());
         }
-        self.add_new(handle, guid, agent, controller, attributes)
+        self.add_new(request)
     }
 
     /// Makes a new item where there is no equal one, if the agent is not 0. On an `Err` the items are as
     /// they were.
-    pub fn add_new(
-        &mut self,
-        handle: u64,
-        guid: Uuid,
-        agent: u64,
-        controller: u64,
-        attributes: u32,
-    ) -> Result<(), AllocError>
-        requires { rule.has_equal self.old handle guid agent controller attributes ≡ false }
-        ensures ok { OnOk result
-            (self.new ≡ with_item handle guid agent controller attributes self.old) }
+    pub fn add_new(&mut self, request: &OpenRequest) -> Result<(), AllocError>
+        requires { is_among self.old request.now ≡ false }
+        ensures ok { OnOk result (self.new ≡ with_request request.now self.old) }
         ensures err { OnErr result (self.new ≡ self.old) }
-        ensures no_agent { agent ≡ 0 → IsOk result }
+        ensures no_agent { request.now.agent ≡ 0 → IsOk result }
     {
-        if agent != 0 {
+        if request.agent != 0 {
             return self.items.push(&OpenRecord {
-                handle,
-                guid,
-                agent,
-                controller,
-                attributes,
+                handle: request.handle,
+                guid: request.guid,
+                agent: request.agent,
+                controller: request.controller,
+                attributes: request.attributes,
                 count: 1,
             });
         }
@@ -342,7 +302,7 @@ impl<A: Allocator + Copy> Opens<A> {
 
     /// The managers of a handle: one for each item for a driver with the handle as its controller,
     /// on whatever handle it is. If there are none, this takes no memory.
-    pub fn managers(&self, handle: u64) -> Result<Vec<Manager, A>, AllocError>
+    pub fn managers(&self, handle: u64) -> Result<Vec<Pair, A>, AllocError>
         ensures pairs { IfOk result (λ v. v.items ≡ managers_of self.now handle) }
         ensures none { managers_of self.now handle ≡ [] → IsOk result }
     {
@@ -353,7 +313,7 @@ impl<A: Allocator + Copy> Opens<A> {
     }
 
     /// The managers of some handles, none of which is 0, in the order of their items.
-    pub fn managers_of_any(&self, handles: &[u64]) -> Result<Vec<Manager, A>, AllocError>
+    pub fn managers_of_any(&self, handles: &[u64]) -> Result<Vec<Pair, A>, AllocError>
         requires { AllByRecursion (λ n. (n == 0) ≡ false) handles.now }
         ensures { IfOk result (λ v. v.items ≡ managers_of_any self.now handles.now) }
     {
@@ -366,26 +326,28 @@ fn decide_among<A: Allocator + Copy>(
     handles: &Handles<A>,
     installed: bool,
     on: Near<'_>,
-    handle: u64,
-    guid: Uuid,
-    agent: u64,
-    controller: u64,
-    attributes: u32,
+    request: &OpenRequest,
 ) -> Decision
-    requires { installed ≡ carries handles.now guid handle }
-    ensures { result ≡ rule.open_rule handles.now
-        (items_near on.entry) handle guid agent controller attributes }
+    requires { installed ≡ carries handles.now request.now.guid request.now.handle }
+    ensures { result ≡ decision_on handles.now (items_near on.entry) request.now }
 {
+    let OpenRequest {
+        handle,
+        guid,
+        agent: _,
+        controller: _,
+        attributes,
+    } = *request;
     if !is_known(attributes)
         || !is_live_if(handles, installed, handle, guid)
-        || names_badly(handles, handle, agent, controller, attributes)
+        || names_badly(handles, request)
     {
         return Decision::Refuse(Status::InvalidParameter);
     }
     if !installed {
         return Decision::Refuse(Status::Unsupported);
     }
-    if has_equal(on, handle, guid, agent, controller, attributes) {
+    if has_equal(on, request) {
         return if is_for_driver(attributes) {
             Decision::Refuse(Status::AlreadyStarted)
         } else if attributes == EXCLUSIVE {
@@ -394,7 +356,7 @@ fn decide_among<A: Allocator + Copy>(
             Decision::Count
         };
     }
-    if is_for_driver(attributes) && has_of_agent(on, handle, guid, agent, attributes) {
+    if is_for_driver(attributes) && has_of_agent(on, request) {
         return Decision::Refuse(Status::AlreadyStarted);
     }
     if attributes == BY_DRIVER && is_held(on, handle, guid) {
@@ -429,16 +391,19 @@ fn is_live_if<A: Allocator + Copy>(
 
 /// Whether a call of a live handle lacks an agent or a controller, or names a dead one, or the handle
 /// itself as the controller of a child.
-fn names_badly<A: Allocator + Copy>(
-    handles: &Handles<A>,
-    handle: u64,
-    agent: u64,
-    controller: u64,
-    attributes: u32,
-) -> bool
-    requires { is_live handles.now handle ≡ true }
-    ensures { result ≡ rule.names_badly handles.now handle agent controller attributes }
+fn names_badly<A: Allocator + Copy>(handles: &Handles<A>, request: &OpenRequest) -> bool
+    requires { is_live handles.now request.now.handle ≡ true }
+    ensures { result ≡ rule.names_badly
+        handles.now request.now.handle request.now.agent request.now.controller
+        request.now.attributes }
 {
+    let OpenRequest {
+        handle,
+        guid: _,
+        agent,
+        controller,
+        attributes,
+    } = *request;
     (agent == 0 && needs_agent(attributes))
         || (controller == 0 && needs_controller(attributes))
         || is_dead(handles, agent)
@@ -464,11 +429,9 @@ fn items_among<A: Allocator>(
     ensures none { items_on (items_near near.entry) handle guid ≡ [] → IsOk result }
 {
     let mut found = Vec::new(alloc);
-    for place in near.places {
-        if let Some(o) = item_at(near.slots, *place) {
-            if is_open_on(o, handle, guid) {
-                found.push(item_of(o))?;
-            }
+    for o in near.items() {
+        if is_open_on(o, handle, guid) {
+            found.push(item_of(o))?;
         }
     }
     Ok(found)
@@ -479,16 +442,14 @@ fn managers_near<A: Allocator>(
     alloc: A,
     near: Near<'_>,
     handle: u64,
-) -> Result<Vec<Manager, A>, AllocError>
+) -> Result<Vec<Pair, A>, AllocError>
     ensures pairs { IfOk result (λ v. v.items ≡ managers_of (items_near near.entry) handle) }
     ensures none { managers_of (items_near near.entry) handle ≡ [] → IsOk result }
 {
     let mut found = Vec::new(alloc);
-    for place in near.places {
-        if let Some(o) = item_at(near.slots, *place) {
-            if manages(o, handle) {
-                found.push(o.manager())?;
-            }
+    for o in near.items() {
+        if manages(o, handle) {
+            found.push(o.manager())?;
         }
     }
     Ok(found)
@@ -499,7 +460,7 @@ fn managers_among<A: Allocator>(
     alloc: A,
     slots: &[Option<OpenRecord>],
     handle: u64,
-) -> Result<Vec<Manager, A>, AllocError>
+) -> Result<Vec<Pair, A>, AllocError>
     ensures pairs { IfOk result (λ v. v.items ≡ managers_of (items_in slots.now) handle) }
     ensures none { managers_of (items_in slots.now) handle ≡ [] → IsOk result }
 {

@@ -1,21 +1,20 @@
 //! The open items at their places, and where those on each handle and of each controller are.
-ghost use Rattle.std.specs.Prelude.{◌≡◌, ◌-◌, ◌<◌, ◌≤◌, ◌^◌, ◌==◌, ◌++◌, ◌∷◌, ℕ, [], None, true, false, drop, length, take, is_some, slice_get, slice_set, IfOk, OnOk, OnErr};
+ghost use Rattle.std.specs.Prelude.{◌≡◌, ◌-◌, ◌<◌, ◌≤◌, ◌^◌, ◌==◌, ◌++◌, ◌∷◌, ℕ, [], None, true, false, drop, length, map, take, is_some, slice_get, slice_set, IfOk, OnOk, OnErr};
 ghost use Rattle.std.specs.List.{filter, list_any, AllByRecursion};
-ghost use Rattle.guid_handles.specs.Blocks.{ChangesBlock, ChangesBlocks, IsFree, block_at, with_last};
 ghost use Rattle.open_agents.specs.OpenItems as spec;
-ghost use Rattle.open_agents.specs.OpenItems.{is_equal_item, with_count, without_items};
+ghost use Rattle.open_agents.specs.OpenItems.{counted, without_items};
+ghost use Rattle.open_agents.specs.OpenRequests.{asks_for};
 ghost use Rattle.open_agents.specs.Blocks as other;
-ghost use Rattle.open_agents.specs.Blocks.{FindsLast, HoldsAt, NoneFrom, are_equal, is_in_block, is_near, item_at as there, items_in, items_near, places_from};
-ghost use Rattle.open_agents.specs.Listed.{is_of_agent, items_of};
+ghost use Rattle.open_agents.specs.Blocks.{FindsLast, HoldsAt, NoneFrom, are_equal, is_near, item_at as there, items_in, items_near, places_from};
+ghost use Rattle.open_agents.specs.Listed.{items_of};
 
-use crate::item_tests::{ItemTest, find_last_passing};
-use crate::items::{OpenRecord, once_more};
-use crate::near::{BlockOf, Found, Near, nth_item};
+use crate::item_tests::{ItemTest, find_last_of, find_last_passing};
+use crate::items::{OpenRecord, OpenRequest, once_more};
+use crate::near::{Found, Near};
 use crate::questions::find_last;
-use guid_handles::Blocks;
+use guid_handles::{NumberLists, add_place, has_place, remove_place};
 use std::alloc::{AllocError, Allocator};
 use std::marker::Model;
-use uuid::Uuid;
 
 /// The open items, each once. An item that is closed leaves its place empty.
 #[derive(Drop)]
@@ -24,10 +23,10 @@ pub(crate) struct ItemStore<A: Allocator> {
     slots: Vec<Option<OpenRecord>, A>,
     // How many of these are not empty.
     count: usize,
-    // Their places, by handle and by controller.
-    blocks: Blocks<A>,
-    // Their places, by agent.
-    agents: Blocks<A>,
+    // The places of the items on each handle and of each controller.
+    near: NumberLists<A>,
+    // The agents of items, ascending, and others that were one.
+    agents: Vec<usize, A>,
 }
 
 impl<A: Allocator> Model for ItemStore<A> {
@@ -39,7 +38,7 @@ impl<A: Allocator> Model for ItemStore<A> {
 
     ghost view = { λ s. s.slots.items };
 
-    ghost invariant = { λ s. IsOpenStore s.slots.items s.blocks s.agents
+    ghost invariant = { λ s. IsOpenStore s.slots.items s.near s.agents.items
         × (s.count ≡ length (items_in s.slots.items)) };
 }
 
@@ -51,8 +50,8 @@ impl<A: Allocator + Copy> ItemStore<A> {
         ItemStore {
             slots: Vec::new(alloc),
             count: 0,
-            blocks: Blocks::new(alloc),
-            agents: Blocks::new(alloc),
+            near: NumberLists::new(alloc),
+            agents: Vec::new(alloc),
         }
     }
 
@@ -61,12 +60,12 @@ impl<A: Allocator + Copy> ItemStore<A> {
         ensures { IfOk result (λ copy. copy ≡ self.now) }
     {
         let slots = Vec::from_slice(*self.slots.allocator(), self.slots.as_slice())?;
-        let blocks = self.blocks.try_copy()?;
-        let agents = self.agents.try_copy()?;
+        let near = self.near.try_copy()?;
+        let agents = Vec::from_slice(*self.agents.allocator(), self.agents.as_slice())?;
         Ok(ItemStore {
             slots,
             count: self.count,
-            blocks,
+            near,
             agents,
         })
     }
@@ -92,7 +91,7 @@ impl<A: Allocator + Copy> ItemStore<A> {
         self.count
     }
 
-    /// The items in the block of a handle.
+    /// The items near a handle.
     pub(crate) fn near(&self, handle: u64) -> Near<'_>
         ensures slots { result.slots.now ≡ self.now }
         ensures places { result.places.now ≡ places_from 0 (is_near handle) self.now }
@@ -100,53 +99,37 @@ impl<A: Allocator + Copy> ItemStore<A> {
     {
         Near {
             slots: self.slots.as_slice(),
-            places: self.blocks.places(handle),
+            places: self.near.of(handle),
         }
     }
 
-    /// The items of an agent.
-    pub(crate) fn of_agent(&self, agent: u64) -> Near<'_>
-        ensures slots { result.slots.now ≡ self.now }
-        ensures places { result.places.now ≡ places_from 0 (is_of_agent agent) self.now }
-        ensures items { items_near result ≡ items_of (items_in self.now) agent }
+    /// Whether a handle may be the agent of an item.
+    pub(crate) fn may_be_agent(&self, handle: u64) -> bool
+        ensures { result ≡ false
+            → AllByRecursion (λ o. (o.agent == handle) ≡ false) (items_in self.now) }
     {
-        Near {
-            slots: self.slots.as_slice(),
-            places: self.agents.places(agent),
-        }
+        has_place(self.agents.as_slice(), handle as usize)
     }
 
-    /// The items in a block.
-    fn among(&self, block: BlockOf) -> Near<'_>
-        ensures slots { result.slots.now ≡ self.now }
-        ensures places { result.places.now ≡ places_from 0 (is_in_block block) self.now }
+    /// Forgets that a handle was the agent of items.
+    pub(crate) fn forget_agent(&mut self, handle: u64)
+        requires { AllByRecursion (λ o. (o.agent == handle) ≡ false) (items_in self.old) }
+        ensures { self.new ≡ self.old }
     {
-        match block {
-            BlockOf::Handle(handle) => self.near(handle),
-            BlockOf::Agent(agent) => self.of_agent(agent),
-        }
+        remove_place(&mut self.agents, handle as usize);
     }
 
     /// The item at an index among those of an agent, in the order in which they were made.
     pub(crate) fn nth_of(&self, agent: u64, index: usize) -> Option<OpenRecord>
         ensures { result ≡ slice_get (items_of (items_in self.now) agent) index }
     {
-        nth_item(self.of_agent(agent), index)
+        nth_of_agent(self.slots.as_slice(), agent, index)
     }
 
     /// Counts the item at a place once more, which is equal to what a call asks for.
-    pub(crate) fn count_at(
-        &mut self,
-        place: usize,
-        handle: u64,
-        guid: Uuid,
-        agent: u64,
-        controller: u64,
-        attributes: u32,
-    )
-        requires { HoldsAt (is_equal_item handle guid agent controller attributes) self.old place }
-        ensures { items_in self.new
-            ≡ with_count handle guid agent controller attributes (items_in self.old) }
+    pub(crate) fn count_at(&mut self, place: usize, request: &OpenRequest)
+        requires { HoldsAt (asks_for request.now) self.old place }
+        ensures { items_in self.new ≡ map (counted (asks_for request.now)) (items_in self.old) }
     {
         if let Some(item) = self.slots[place] {
             let mut counted = item;
@@ -164,42 +147,52 @@ impl<A: Allocator + Copy> ItemStore<A> {
             self.slots[place] = None;
             self.count -= 1;
             let second = second_block(&item);
-            self.blocks
+            self.near
                 .remove_ascending_from_both(item.handle, second, place);
-            self.agents.remove_ascending(item.agent, place);
         }
     }
 
-    /// The last item of a block that passes a test, where none does from the index `end` on.
-    fn last_below<T: ItemTest>(&self, block: BlockOf, end: usize, test: &T) -> Option<Found>
-        requires bound { end ≤ length (places_from 0 (is_in_block block) self.now) }
+    /// The last item near a handle that passes a test, where none does from the index `end` on.
+    fn last_below<T: ItemTest>(&self, handle: u64, end: usize, test: &T) -> Option<Found>
+        requires bound { end ≤ length (places_from 0 (is_near handle) self.now) }
         requires behind { NoneFrom (T.meaning test.now)
-            self.now (places_from 0 (is_in_block block) self.now) end }
+            self.now (places_from 0 (is_near handle) self.now) end }
         ensures { FindsLast (T.meaning test.now)
-            self.now (places_from 0 (is_in_block block) self.now) result }
+            self.now (places_from 0 (is_near handle) self.now) result }
     {
         if end == 0 {
             return None;
         }
-        find_last_passing(self.among(block), end, test)
+        find_last_passing(self.near(handle), end, test)
     }
 
-    /// Removes all items that pass a test, each of which is in a block, and returns whether there
-    /// were any. This looks at each place of the block once, from the last one down.
-    pub(crate) fn drop_passing<T: ItemTest>(&mut self, block: BlockOf, test: &T) -> bool
-        requires { (o : _) → T.meaning test.now o ≡ true → is_in_block block o ≡ true }
+    /// Removes all items that pass a test, each of which is near a handle, and returns whether there
+    /// were any. This looks at each place near the handle once, from the last one down.
+    pub(crate) fn drop_passing<T: ItemTest>(&mut self, handle: u64, test: &T) -> bool
+        requires { (o : _) → T.meaning test.now o ≡ true → is_near handle o ≡ true }
         ensures found { result ≡ list_any (T.meaning test.now) (items_in self.old) }
         ensures remaining { items_in self.new
             ≡ without_items (T.meaning test.now) (items_in self.old) }
     {
-        let near = self.among(block);
+        let near = self.near(handle);
         let mut found = find_last_passing(near, near.places.len(), test);
         let any = found.is_some();
         while let Some(last) = found {
             self.remove(last.place);
-            found = self.last_below(block, last.index, test);
+            found = self.last_below(handle, last.index, test);
         }
         any
+    }
+
+    /// Removes all items that pass a test, looked for among all.
+    pub(crate) fn drop_anywhere<T: ItemTest>(&mut self, test: &T)
+        ensures { items_in self.new ≡ without_items (T.meaning test.now) (items_in self.old) }
+    {
+        let mut end = self.slots().len();
+        while let Some(place) = find_last_of(self.slots(), end, test) {
+            self.remove(place);
+            end = place;
+        }
     }
 
     /// Removes the last item, if there is one, where none is at a place from `end` on. Returns a place from
@@ -242,7 +235,9 @@ impl<A: Allocator + Copy> ItemStore<A> {
     {
         self.slots.reserve(1)?;
         let place = self.slots.as_slice().len();
-        file_place(&mut self.blocks, &mut self.agents, item, place)?;
+        add_place(&mut self.agents, item.agent as usize)?;
+        self.near
+            .push_in_both(item.handle, second_block(item), place)?;
         self.slots.push_reserved(Some(*item));
         self.count += 1;
         Ok(())
@@ -298,27 +293,20 @@ fn second_block(item: &OpenRecord) -> u64
     }
 }
 
-/// Appends the place of an item to the blocks of its handle and of its controller, and to that of its agent. On
-/// an `Err` each block is as it was.
-fn file_place<A: Allocator + Copy>(
-    blocks: &mut Blocks<A>,
-    agents: &mut Blocks<A>,
-    item: &OpenRecord,
-    place: usize,
-) -> Result<(), AllocError>
-    requires { IsFree place blocks.old }
-    ensures blocks { OnOk result (ChangesBlocks item.now.handle
-        (other.second_block item.now) (with_last place) blocks.old blocks.new) }
-    ensures agents { OnOk result
-        (ChangesBlock item.now.agent (with_last place) agents.old agents.new) }
-    ensures err { OnErr result ((m : ℕ) → block_at blocks.new m ≡ block_at blocks.old m) }
-    ensures no_agent { OnErr result (agents.new ≡ agents.old) }
+/// The item at an index among those of an agent.
+fn nth_of_agent(slots: &[Option<OpenRecord>], agent: u64, index: usize) -> Option<OpenRecord>
+    ensures { result ≡ slice_get (items_of (items_in slots.now) agent) index }
 {
-    let second = second_block(item);
-    blocks.push_in_both(item.handle, second, place)?;
-    if let Err(fault) = agents.push(item.agent, place) {
-        blocks.remove_from_both(item.handle, second, place);
-        return Err(fault);
+    let mut left = index;
+    for slot in slots {
+        if let Some(item) = slot {
+            if item.agent == agent {
+                if left == 0 {
+                    return Some(*item);
+                }
+                left -= 1;
+            }
+        }
     }
-    Ok(())
+    None
 }

@@ -8,7 +8,7 @@ use Rattle.open_agents.specs.declared.items.Decision.{Decision}
 use Rattle.open_agents.specs.declared.items.Decision.TheVariants.{Refuse, Count, Add, StopFirst}
 use Rattle.open_agents.specs.OpenItems.{is_closed_by}
 use Rattle.open_agents.specs.OpenRule.{open_rule}
-use Rattle.open_agents.specs.declared.items.Manager.{Manager}
+use Rattle.guid_handles.specs.declared.records.Pair.{Pair}
 use Rattle.driver_connect.specs.Drivers.{Meaning}
 use Rattle.driver_connect.specs.Starting.{site}
 use Rattle.driver_connect.specs.Connecting.{first_progress, levels_below}
@@ -78,7 +78,7 @@ locates_protocol old guid key (Err e) new h = absurd h
 
 -- ---- opening and closing
 
-stopped_counts : (pairs : List Manager) (l : Lists) (n : ℕ) → CountUpTo n l.opens → CountUpTo n (once_stopped pairs l).opens
+stopped_counts : (pairs : List Pair) (l : Lists) (n : ℕ) → CountUpTo n l.opens → CountUpTo n (once_stopped pairs l).opens
 stopped_counts pairs l n h = all_left (λ o. o.count ≤ n) _ _ l.opens h
 
 opens_as : (ds : List Meaning) (d : Decision) (old : Lists) (handle : ℕ) (guid : List ℕ) (agent controller a : ℕ) (result : Result (Option ℕ) Status) (new : Lists) → OpensAs ds d old handle guid agent controller a result new

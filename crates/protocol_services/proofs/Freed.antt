@@ -1,42 +1,49 @@
 -- An interface that is freed, and what stays of its handle.
-use Rattle.std.proofs.Common.{◌≡◌, ℕ, ◌+◌, ◌≤◌, ◌&&◌, ◌++◌, append-nil, Bool, not, true, false, List, [], ◌∷◌, Option, Some, None, is_some, Result, Ok, Err, IfOk, OnOk, OnErr, Vec, inl, inr, refl, sym, ap, subst, ◌∙◌, arith}
+use Rattle.std.proofs.Common.{◌≡◌, ℕ, ◌+◌, ◌≤◌, ◌&&◌, ◌++◌, Bool, not, true, false, List, [], ◌∷◌, Option, Some, None, is_some, Result, Ok, Err, IfOk, OnOk, OnErr, Vec, inl, inr, refl, sym, ap, subst, ◌∙◌, arith}
 use Rattle.std.specs.List.{filter, list_any, list_all}
 use Rattle.std.specs.Option.{option_map}
+use Rattle.std.proofs.lemmas.Bool.Decides.{eqb_tells}
 use Rattle.std.proofs.lemmas.Bool.{cases_Bool, and_parts}
 use Rattle.page_ranges.specs.declared.statuses.Status.{Status}
 use Rattle.guid_handles.specs.declared.records.Interface.{Interface}
 use Rattle.guid_handles.specs.HandleTables.{HandleTable, numbers, is_on, is_at, is_live, interface_at, value_at, carries}
-use Rattle.guid_handles.specs.HandleChanges.{IsHandleTable, unless_bare, with_value, without_interface}
+use Rattle.guid_handles.specs.HandleChanges.{unless_bare, with_value, without_interface}
 use Rattle.guid_handles.proofs.SortedLists.{all_filter, find_filter}
 use Rattle.guid_handles.proofs.Indexed.{at_handle}
 use Rattle.open_agents.specs.declared.items.Decision.TheVariants.{StopFirst}
-use Rattle.open_agents.specs.declared.items.Manager.{Manager}
+use Rattle.guid_handles.specs.declared.records.Pair.{Pair}
 use Rattle.open_agents.specs.declared.items.OpenRecord.{OpenRecord}
 use Rattle.open_agents.specs.Blocks.{is_near}
 use Rattle.open_agents.specs.OpenItems.{is_keeping, is_kept, is_open_on, names, with_item, without_items}
 use Rattle.protocol_notify.specs.Registrations.{events_for}
-use Rattle.driver_connect.specs.declared.stopping.Opener.{Opener}
 use Rattle.driver_connect.specs.Drivers.{Meaning}
-use Rattle.driver_connect.specs.Starting.{Progress, Site, site}
+use Rattle.driver_connect.specs.Starting.{Progress, site}
 use Rattle.driver_connect.specs.Stopping.{PlannedStop, planned_stop, takes_item, can_be_stopped, is_made_by, is_one_of, is_unobstructed, made_by, may_stop, spares_opener, stop_set, without_handles, without_opens}
 use Rattle.driver_connect.specs.Connecting.{ConnectsBelow, first_progress, levels_below}
-use Rattle.driver_connect.specs.Readiness.{is_any_ready}
-use Rattle.driver_connect.proofs.Beside.{none_of}
 use Rattle.driver_connect.proofs.Counts.{connect_counts}
-use Rattle.driver_connect.proofs.Idle.{idle_connect}
 use Rattle.driver_connect.proofs.PlannedStops.{added_first, kept_near, opener_spared}
-use Rattle.driver_connect.proofs.Ready.{ready_start}
 use Rattle.protocol_services.specs.Lists.{Lists, IsRaised}
 use Rattle.protocol_services.specs.Opening.{OpensAs, opened_value}
 use Rattle.protocol_services.specs.Stopping.{can_stop}
-use Rattle.protocol_services.specs.Removing.{Reinstalls, Replaces, can_be_freed, drivers_on, freed, is_value, once_freed, reconnected, removal_refusal, replaced, uninstalled, with_progress, without_dead}
+use Rattle.protocol_services.specs.Removing.{Reinstalls, Replaces, can_be_freed, drivers_on, freed, is_value, once_freed, reconnected, removal_refusal, replaced, uninstalled, without_dead}
 use Rattle.protocol_services.proofs.OpenCounts.{CountUpTo, one_higher, opened_counts}
-use Rattle.protocol_services.proofs.Raised.{all_left, stays_raised}
+use Rattle.protocol_services.proofs.Raised.{all_left}
 
 -- ---- the handle of a call stays
 
+-- a number that fails a test is none of those that pass it
+none_of : (p : ℕ → Bool) (n : ℕ) → p n ≡ false → (ns : List ℕ) → is_one_of (filter p ns) n ≡ false
+none_of p n h [] = refl
+none_of p n h (m ∷ ms) = elim (cases_Bool (p m)) [
+  | inl e ↦ elim (eqb_tells n m) [
+    | inl t ↦ absurd (let k = rw t.1 at h in let f : true ≡ false = sym e ∙ k in cc)
+    | inr f ↦ rw e (rw f.0 (none_of p n h ms))
+  ]
+  | inr e ↦ rw e (none_of p n h ms)
+]
+
 -- the handle of a call is not one of those that go
-stays : (ds : List Meaning) (t : HandleTable) (opens : List OpenRecord) (set : List Manager) (handle : ℕ) (opener : Option Opener) → can_be_stopped ds t opens set handle opener ≡ true
+stays : (ds : List Meaning) (t : HandleTable) (opens : List OpenRecord) (set : List Pair) (handle : ℕ) (opener : Option Pair) → can_be_stopped ds t opens set handle opener ≡ true
     → is_made_by t set handle ≡ false
 stays ds t opens set handle opener h =
     let a = and_parts (list_all (may_stop ds t opens) set) _ h in
@@ -65,7 +72,7 @@ carried_freed ds l handle guid h k = ap is_some (interface_kept ds l handle guid
 -- ---- an open after a stop
 
 -- What an exclusive open leaves that added its item and then stopped a driver.
-pub opened_stopped : (ds : List Meaning) (l new : Lists) (plan : PlannedStop) (pair : Manager) (handle : ℕ) (guid : List ℕ) (opener : Opener) (a : ℕ) (can : Bool) (value : Option ℕ) (added : List OpenRecord)
+pub opened_stopped : (ds : List Meaning) (l new : Lists) (plan : PlannedStop) (pair : Pair) (handle : ℕ) (guid : List ℕ) (opener : Pair) (a : ℕ) (can : Bool) (value : Option ℕ) (added : List OpenRecord)
     → plan ≡ planned_stop l.handles l.opens (pair ∷ []) → can ≡ can_be_stopped ds l.handles l.opens plan.pairs handle (Some opener) → can ≡ true → added ≡ with_item handle guid opener.agent opener.controller a l.opens
     → new ≡ record l { handles = without_handles plan.handles l.handles; opens = without_opens plan.handles plan.pairs added }
     → value ≡ opened_value l handle guid a → OpensAs ds (StopFirst pair) l handle guid opener.agent opener.controller a (Ok value) new
@@ -193,51 +200,11 @@ uninstalled_raised l draft left new handle guid d u e =
 
 -- ---- an interface with another value
 
--- where no driver is ready, a connect leaves all as it is
-pub idle : (ds : List Meaning) (l : Lists) (handle : ℕ) → IsHandleTable l.handles → is_any_ready ds l.handles l.opens handle [] ≡ false → reconnected ds handle l ≡ first_progress l.handles l.opens
-idle ds l handle proper h =
-    let c : Site = site ds l.registrations handle in
-    let p : Progress = first_progress l.handles l.opens in
-    idle_connect (levels_below true) c [] p proper (ready_start c [] p ∙ h)
-
--- a value in place of another, where no driver is ready then
-pub replaced_idle : {A : Type 0} (ds : List Meaning) (l new : Lists) (plan : PlannedStop) (handle : ℕ) (guid : List ℕ) (value : ℕ) (events : Vec ℕ A) → plan ≡ planned_stop l.handles l.opens (drivers_on l.opens handle guid)
-    → is_any_ready ds (with_value handle guid value (without_handles plan.handles l.handles)) (without_items (is_open_on handle guid) (without_opens plan.handles plan.pairs l.opens)) handle [] ≡ false
-    → new ≡ replaced handle guid value (freed handle guid l) → IsHandleTable new.handles → events.items ≡ events_for l.registrations guid → Replaces ds handle guid value (freed handle guid l) events new
-replaced_idle ds l new plan handle guid value events p none n proper e =
-    let whole : Lists = replaced handle guid value (freed handle guid l) in
-    let ready : is_any_ready ds whole.handles whole.opens handle [] ≡ false = rw p at none in
-    let stays : reconnected ds handle whole ≡ first_progress whole.handles whole.opens = idle ds whole handle (rw n at proper) ready in (
-      e ∙ sym (append-nil (events_for l.registrations guid)) ∙ ap (λ (q : Progress). events_for l.registrations guid ++ q.events) (sym stays),
-      n ∙ ap (λ (q : Progress). with_progress q (freed handle guid l)) (sym stays),
-    )
-
-pub replaced_raised : (l new : Lists) (handle : ℕ) (guid : List ℕ) (value : ℕ) → new ≡ replaced handle guid value (freed handle guid l) → IsRaised l new
-replaced_raised l new handle guid value e =
-    let part : IsPart l (freed handle guid l) = freed_part l handle guid in
-    rw e record {
-      numbers = omega (arith, part.numbers);
-      stamps = omega (arith, part.stamps);
-      keys = omega arith;
-      counts = λ n h. one_higher n (freed handle guid l).opens (part.counts n h);
-    }
-
 -- a value in place of another, as it is put there
 pub replaced_in_place : (l : Lists) (plan : PlannedStop) (handle : ℕ) (guid : List ℕ) (value : ℕ) (t given : HandleTable) (opens : List OpenRecord) → plan ≡ planned_stop l.handles l.opens (drivers_on l.opens handle guid)
     → t ≡ without_handles plan.handles l.handles → given ≡ with_value handle guid value t → opens ≡ without_items (is_open_on handle guid) (without_opens plan.handles plan.pairs l.opens)
     → record l { handles = given; opens = opens } ≡ replaced handle guid value (freed handle guid l)
 replaced_in_place l plan handle guid value t given opens p h g o = rw g (rw h (rw o (rw p refl)))
-
-pub replaced_where_idle : {A : Type 0} {E : Type 0} (ds : List Meaning) (l new : Lists) (plan : PlannedStop) (handle : ℕ) (guid : List ℕ) (value : ℕ) (result : Result (Vec ℕ A) E) → plan ≡ planned_stop l.handles l.opens (drivers_on l.opens handle guid)
-    → is_any_ready ds (with_value handle guid value (without_handles plan.handles l.handles)) (without_items (is_open_on handle guid) (without_opens plan.handles plan.pairs l.opens)) handle [] ≡ false
-    → OnOk result (new ≡ replaced handle guid value (freed handle guid l)) → OnOk result (IsHandleTable new.handles) → IfOk result (λ events. events.items ≡ events_for l.registrations guid)
-    → IfOk result (λ events. Replaces ds handle guid value (freed handle guid l) events new)
-replaced_where_idle ds l new plan handle guid value (Ok events) p none n proper e = replaced_idle ds l new plan handle guid value events p none n proper e
-replaced_where_idle ds l new plan handle guid value (Err status) p none n proper e = tt
-
-pub replaced_or_not_raised : {R : Type 0} {E : Type 0} (l new : Lists) (handle : ℕ) (guid : List ℕ) (value : ℕ) (result : Result R E) → OnOk result (new ≡ replaced handle guid value (freed handle guid l)) → OnErr result (new ≡ l) → IsRaised l new
-replaced_or_not_raised l new handle guid value (Ok returned) n same = replaced_raised l new handle guid value n
-replaced_or_not_raised l new handle guid value (Err status) n same = rw same (stays_raised l)
 
 -- a value in place of another, with all that is connected then
 pub replaced_below : {A : Type 0} (ds : List Meaning) (l mid new : Lists) (handle : ℕ) (guid : List ℕ) (value : ℕ) (given : List ℕ) (events : Vec ℕ A) → mid ≡ replaced handle guid value (freed handle guid l)
@@ -301,18 +268,12 @@ pub freed_raised_or_not : {A : Type 0} {E : Type 0} (ds : List Meaning) (l new :
 freed_raised_or_not ds l new plan handle guid value given (Ok events) t opens p h o c r numbers stamps = connected_freed_raised ds l new plan handle guid value given events.items t opens p h o c r numbers stamps
 freed_raised_or_not ds l new plan handle guid value given (Err error) t opens p h o c r numbers stamps = tt
 
-pub handles_left : {R : Type 0} {E : Type 0} (result : Result R E) (t new : HandleTable) (opens old : List OpenRecord) → OnErr result ((new ≡ t) × (opens ≡ old)) → OnErr result (new ≡ t)
-handles_left (Ok returned) t new opens old h = tt
-handles_left (Err error) t new opens old h = h.0
-
--- the handles of a stop are those that its pairs made
-pub planned_made : (t : HandleTable) (opens : List OpenRecord) (pairs : List Manager) (plan : PlannedStop) → plan ≡ planned_stop t opens pairs → plan.handles ≡ made_by t plan.pairs
-planned_made t opens pairs plan p = rw p refl
-
--- ---- what is put back
-
-pub opens_back : (l left : Lists) (opens : List OpenRecord) → left.handles ≡ l.handles → left.registrations ≡ l.registrations → opens ≡ l.opens → record left { opens = opens } ≡ l
-opens_back l left opens h r o = rw (h, r, o) refl
+-- where memory runs out then, the interface is freed
+pub left_freed : {R : Type 0} {E : Type 0} (l : Lists) (plan : PlannedStop) (handle : ℕ) (guid : List ℕ) (result : Result R E) (t new_t : HandleTable) (opens new_opens : List OpenRecord)
+    → plan ≡ planned_stop l.handles l.opens (drivers_on l.opens handle guid) → t ≡ without_handles plan.handles l.handles → opens ≡ without_items (is_open_on handle guid) (without_opens plan.handles plan.pairs l.opens)
+    → OnErr result ((new_t ≡ t) × (new_opens ≡ opens)) → OnErr result (record l { handles = new_t; opens = new_opens } ≡ freed handle guid l)
+left_freed l plan handle guid (Ok returned) t new_t opens new_opens p h o e = tt
+left_freed l plan handle guid (Err error) t new_t opens new_opens p h o e = rw (e.0, e.1, h, o, p) refl
 
 pub reinstalls : {A : Type 0} (ds : List Meaning) (l new : Lists) (handle : ℕ) (guid : List ℕ) (old value : ℕ) (events : Vec ℕ A) → removal_refusal l.handles handle guid old ≡ None → can_be_freed ds l handle guid ≡ true
     → Replaces ds handle guid value (freed handle guid l) events new → Reinstalls ds l handle guid old value (Ok events) new

@@ -18,6 +18,4 @@ pub mod Signals
 pub mod RemovedMany
 pub mod FreeToGo
 pub mod TwiceNamed
-pub mod DriversNear
-pub mod Lives
 pub mod Decided

@@ -9,7 +9,7 @@ use Rattle.guid_handles.specs.HandleChanges.{is_dead, without_interface}
 use Rattle.guid_handles.specs.Sorting.{Ascending}
 use Rattle.guid_handles.proofs.GuidOrder.{same_guid-true}
 use Rattle.guid_handles.proofs.SortedLists.{all_map, all_mapped, all_of, all_push, all_filter, all_filtered, any_none, ascending_filter, ascending_map, ascending_push}
-use Rattle.open_agents.specs.declared.items.Manager.{Manager}
+use Rattle.guid_handles.specs.declared.records.Pair.{Pair}
 use Rattle.open_agents.specs.declared.items.OpenRecord.{OpenRecord}
 use Rattle.open_agents.specs.OpenItems.{counted, is_equal_item, is_exclusive, is_for_driver, is_open_on, manager_of, names, with_item, without_items}
 use Rattle.open_agents.specs.OpenRule.{has_equal, has_holder, is_driver_item}
@@ -112,14 +112,14 @@ unnamed (n ∷ ns) o m k e = elim (cases_Bool (names n o)) [
   ]
 ]
 
-pub stopped_named : (ns : List ℕ) (pairs : List Manager) (t : HandleTable) (opens : List OpenRecord) → AllByRecursion (NamesLive t) opens
+pub stopped_named : (ns : List ℕ) (pairs : List Pair) (t : HandleTable) (opens : List OpenRecord) → AllByRecursion (NamesLive t) opens
     → AllByRecursion (NamesLive (without_handles ns t)) (without_opens ns pairs opens)
 stopped_named ns pairs t opens h =
     all_filter (NamesLive (without_handles ns t)) (λ o. not (has_pair pairs (manager_of o))) (without_items (names_any ns) opens)
     (all_filtered (NamesLive (without_handles ns t)) (NamesLive t) (λ o. not (names_any ns o))
     (λ o k l. named_there t (without_handles ns t) o (λ m e live. live_filtered (λ i. not (is_one_of ns i)) t m live (unnamed ns o m k e)) l) opens h)
 
-pub stopped_apart : (ns : List ℕ) (pairs : List Manager) (opens : List OpenRecord) → Ascending HoldApart opens → Ascending HoldApart (without_opens ns pairs opens)
+pub stopped_apart : (ns : List ℕ) (pairs : List Pair) (opens : List OpenRecord) → Ascending HoldApart opens → Ascending HoldApart (without_opens ns pairs opens)
 stopped_apart ns pairs opens h =
     ascending_filter HoldApart (λ o. not (has_pair pairs (manager_of o))) (without_items (names_any ns) opens) (ascending_filter HoldApart (λ o. not (names_any ns o)) opens h)
 
@@ -186,7 +186,7 @@ one_holder n guid (x ∷ xs) o h e = elim (cases_Bool (is_driver_item n guid x))
 ]
 
 -- once it is stopped, nobody holds it
-pub none_holds : (n : ℕ) (guid : List ℕ) (ns : List ℕ) (set : List Manager) (q : Manager) (opens : List OpenRecord) → has_pair set q ≡ true
+pub none_holds : (n : ℕ) (guid : List ℕ) (ns : List ℕ) (set : List Pair) (q : Pair) (opens : List OpenRecord) → has_pair set q ≡ true
     → AllByRecursion (λ p. is_holder n guid p ≡ true → manager_of p ≡ q) opens → has_holder (without_opens ns set opens) n guid ≡ false
 none_holds n guid ns set q opens h all =
     any_none (is_holder n guid) (without_opens ns set opens)

@@ -9,7 +9,7 @@ use Rattle.guid_handles.specs.HandleChanges.{is_dead}
 use Rattle.guid_handles.proofs.SortedLists.{all_both, all_filter, any_none, ascending_filter, found_none}
 use Rattle.open_agents.specs.declared.items.Decision.{Decision}
 use Rattle.open_agents.specs.declared.items.Decision.TheVariants.{Refuse, Count, Add, StopFirst}
-use Rattle.open_agents.specs.declared.items.Manager.{Manager}
+use Rattle.guid_handles.specs.declared.records.Pair.{Pair}
 use Rattle.open_agents.specs.declared.items.OpenRecord.{OpenRecord}
 use Rattle.open_agents.specs.OpenItems.{is_closed_by, is_exclusive, is_for_driver, is_open_on, manager_of, without_items}
 use Rattle.open_agents.specs.OpenRule.{add_or_stop, driver_item, has_equal, has_exclusive, has_holder, has_of_agent, is_driver_item, is_known, names_badly, needs_agent, needs_controller, open_rule}
@@ -150,16 +150,16 @@ adds l n guid agent controller a d s e f g =
     let k = goes l.handles l.opens n guid agent controller a d e f in
     opened_proper l n guid agent controller a s (well_named l.handles n agent controller a k.named) (λ x h. free_for l.opens n guid a d (k.new x) g h)
 
-stop_pair : (exclusive : Bool) (o : Option OpenRecord) (q : Manager) → add_or_stop exclusive o ≡ StopFirst q → (p : OpenRecord) × (o ≡ Some p) × (manager_of p ≡ q)
+stop_pair : (exclusive : Bool) (o : Option OpenRecord) (q : Pair) → add_or_stop exclusive o ≡ StopFirst q → (p : OpenRecord) × (o ≡ Some p) × (manager_of p ≡ q)
 stop_pair true None q e = absurd cc
 stop_pair true (Some p) q e = (p, refl, cc)
 stop_pair false None q e = absurd cc
 stop_pair false (Some p) q e = absurd cc
 
-own_pair : (q : Manager) → has_pair (q ∷ []) q ≡ true
+own_pair : (q : Pair) → has_pair (q ∷ []) q ≡ true
 own_pair q = rw (eq-eqb q.controller q.controller refl) (rw (eq-eqb q.agent q.agent refl) refl)
 
-stops : (ds : List Meaning) (l : Lists) (n : ℕ) (guid : List ℕ) (agent controller a : ℕ) (q : Manager) → AreProperLists l → open_rule l.handles l.opens n guid agent controller a ≡ StopFirst q
+stops : (ds : List Meaning) (l : Lists) (n : ℕ) (guid : List ℕ) (agent controller a : ℕ) (q : Pair) → AreProperLists l → open_rule l.handles l.opens n guid agent controller a ≡ StopFirst q
     → can_stop ds l (q ∷ []) n (opened_by agent controller) ≡ true → AreProperLists (once_opened (once_stopped (q ∷ []) l) n guid agent controller a)
 stops ds l n guid agent controller a q s e can =
     let k = goes l.handles l.opens n guid agent controller a (StopFirst q) e (λ x. x) in
@@ -180,7 +180,7 @@ stops ds l n guid agent controller a q s e can =
       controller_lives = spared_dead l.handles set controller opener.1 m.controller_lives;
     })
     (λ x h. none_holds n guid (made_by l.handles set) set q l.opens within
-    (subst (λ (r : Manager). AllByRecursion (λ p. is_holder n guid p ≡ true → manager_of p ≡ r) l.opens) pair.2 (one_holder n guid l.opens pair.0 s.holders pair.1)))
+    (subst (λ (r : Pair). AllByRecursion (λ p. is_holder n guid p ≡ true → manager_of p ≡ r) l.opens) pair.2 (one_holder n guid l.opens pair.0 s.holders pair.1)))
 
 opens_as : (ds : List Meaning) (d : Decision) (old : Lists) (n : ℕ) (guid : List ℕ) (agent controller a : ℕ) (result : Result (Option ℕ) Status) (new : Lists) → AreProperLists old
     → open_rule old.handles old.opens n guid agent controller a ≡ d → OpensAs ds d old n guid agent controller a result new → AreProperLists new

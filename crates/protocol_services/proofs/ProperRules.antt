@@ -7,9 +7,8 @@ use Rattle.page_ranges.specs.declared.statuses.Status.{Status}
 use Rattle.page_ranges.specs.declared.statuses.Status.TheVariants as status
 use Rattle.guid_handles.specs.HandleTables.{HandleTable, is_live, numbers}
 use Rattle.guid_handles.specs.HandleChanges.{Installs, has_guid_twice, install_many_refusal, install_refusal, is_dead, is_taken, max_installed, past_limit, refusal}
-use Rattle.open_agents.specs.declared.items.Manager.{Manager}
+use Rattle.guid_handles.specs.declared.records.Pair.{Pair}
 use Rattle.open_agents.specs.declared.items.OpenRecord.{OpenRecord}
-use Rattle.driver_connect.specs.declared.stopping.Opener.{Opener}
 use Rattle.driver_connect.specs.Drivers.{Meaning}
 use Rattle.driver_connect.specs.Stopping.{can_be_stopped, has_agent, is_made_by, is_one_of, is_unobstructed, made_by, may_stop, spares_opener, stop_set, without_handles}
 use Rattle.boot_calls.specs.declared.replies.Installed.{Installed}
@@ -140,7 +139,7 @@ locates_protocol old guid key (Err e) new s h = absurd h
 
 -- ---- stopping
 
-pub stopped_proper : (pairs : List Manager) (l : Lists) → AreProperLists l → AreProperLists (once_stopped pairs l)
+pub stopped_proper : (pairs : List Pair) (l : Lists) → AreProperLists l → AreProperLists (once_stopped pairs l)
 stopped_proper pairs l s =
     let set = stop_set l.handles l.opens pairs in
     let ns = made_by l.handles set in
@@ -161,16 +160,16 @@ not_one q (m ∷ ms) n h = elim (cases_Bool (q m)) [
 ]
 
 -- a handle that the set did not make stays live
-pub spared_live : (t : HandleTable) (set : List Manager) (n : ℕ) → is_made_by t set n ≡ false → is_live t n ≡ true → is_live (without_handles (made_by t set) t) n ≡ true
+pub spared_live : (t : HandleTable) (set : List Pair) (n : ℕ) → is_made_by t set n ≡ false → is_live t n ≡ true → is_live (without_handles (made_by t set) t) n ≡ true
 spared_live t set n h l = live_filtered (λ m. not (is_one_of (made_by t set) m)) t n l (rw (not_one (is_made_by t set) (numbers t) n h) refl)
 
-pub spared_dead : (t : HandleTable) (set : List Manager) (n : ℕ) → is_made_by t set n ≡ false → is_dead t n ≡ false → is_dead (without_handles (made_by t set) t) n ≡ false
+pub spared_dead : (t : HandleTable) (set : List Pair) (n : ℕ) → is_made_by t set n ≡ false → is_dead t n ≡ false → is_dead (without_handles (made_by t set) t) n ≡ false
 spared_dead t set n h d = elim (cases_Bool (n == 0)) [
   | inl z ↦ rw z refl
   | inr z ↦ rw z (rw (spared_live t set n h (not_dead t n z d)) refl)
 ]
 
-pub handle_spared : (ds : List Meaning) (t : HandleTable) (opens : List OpenRecord) (set : List Manager) (handle : ℕ) (opener : Option Opener) → can_be_stopped ds t opens set handle opener ≡ true
+pub handle_spared : (ds : List Meaning) (t : HandleTable) (opens : List OpenRecord) (set : List Pair) (handle : ℕ) (opener : Option Pair) → can_be_stopped ds t opens set handle opener ≡ true
     → (is_made_by t set handle ≡ false) × (spares_opener t set opener ≡ true)
 handle_spared ds t opens set handle opener h =
     let a = and_parts (list_all (may_stop ds t opens) set) (is_unobstructed t opens set && (not (is_made_by t set handle) && spares_opener t set opener)) h in
@@ -178,7 +177,7 @@ handle_spared ds t opens set handle opener h =
     let c = and_parts (not (is_made_by t set handle)) (spares_opener t set opener) b.1 in
     (not-true (is_made_by t set handle) c.0, c.1)
 
-pub opener_spared : (t : HandleTable) (set : List Manager) (agent controller : ℕ) → spares_opener t set (opened_by agent controller) ≡ true → (is_made_by t set agent ≡ false) × (is_made_by t set controller ≡ false)
+pub opener_spared : (t : HandleTable) (set : List Pair) (agent controller : ℕ) → spares_opener t set (opened_by agent controller) ≡ true → (is_made_by t set agent ≡ false) × (is_made_by t set controller ≡ false)
 opener_spared t set agent controller h =
     let a = and_parts (not (has_agent set agent)) (not (is_made_by t set agent) && not (is_made_by t set controller)) h in
     let b = and_parts (not (is_made_by t set agent)) (not (is_made_by t set controller)) a.1 in

@@ -5,7 +5,7 @@ use Rattle.std.proofs.lemmas.Bool.{cases_Bool, ltb-true}
 use Rattle.std.proofs.lemmas.Bool.Decides.{eqb_tells}
 use Rattle.guid_handles.specs.declared.records.Interface.{Interface}
 use Rattle.guid_handles.specs.declared.records.LiveHandle.{LiveHandle}
-use Rattle.guid_handles.specs.declared.records.Maker.{Maker}
+use Rattle.guid_handles.specs.declared.records.Pair.{Pair}
 use Rattle.guid_handles.specs.HandleTables.{HandleTable, is_on, is_at, is_live, has_number}
 use Rattle.guid_handles.specs.HandleChanges.{IsHandleTable, max_handles, max_in_table, has_guid_twice, installed, is_dead, is_taken, past_limit, restamped, stamped, unless_bare, with_handle, with_interfaces, with_value, without_interface}
 use Rattle.guid_handles.specs.Indexes.{AreAbsent}
@@ -107,7 +107,7 @@ with_interfaces_proper n pairs t s live absent once = record {
   guids = stamped_apart n t.last_stamp pairs t.interfaces s.guids absent once;
 }
 
-pub with_handle_proper : (maker : Option Maker) (t : HandleTable) → IsProperTable t → length t.handles < max_handles → IsProperTable (with_handle maker t)
+pub with_handle_proper : (maker : Option Pair) (t : HandleTable) → IsProperTable t → length t.handles < max_handles → IsProperTable (with_handle maker t)
 with_handle_proper maker t s room = record {
   table = one_more maker t s.table (omega (arith, room, s.table.places.0));
   limit = rw length-append (omega (arith, room));
@@ -116,13 +116,13 @@ with_handle_proper maker t s room = record {
 }
 
 -- handles stay live beside a new one
-pub live_beside : (maker : Option Maker) (t : HandleTable) (n : ℕ) → is_live t n ≡ true → is_live (with_handle maker t) n ≡ true
+pub live_beside : (maker : Option Pair) (t : HandleTable) (n : ℕ) → is_live t n ≡ true → is_live (with_handle maker t) n ≡ true
 live_beside maker t n h =
     any_found (has_number n) (t.handles ++ record { number = t.last_number + 1; maker = maker } ∷ [])
     ∙ any_push (has_number n) t.handles (record { number = t.last_number + 1; maker = maker }) (sym (any_found (has_number n) t.handles) ∙ h)
 
 -- a new handle with interfaces on it
-new_proper : (maker : Option Maker) (pairs : List (List ℕ × ℕ)) (t : HandleTable) → IsProperTable t → length t.handles < max_handles → has_guid_twice pairs ≡ false
+new_proper : (maker : Option Pair) (pairs : List (List ℕ × ℕ)) (t : HandleTable) → IsProperTable t → length t.handles < max_handles → has_guid_twice pairs ≡ false
     → IsProperTable (with_interfaces (t.last_number + 1) pairs (with_handle maker t))
 new_proper maker pairs t s room once =
     with_interfaces_proper (t.last_number + 1) pairs (with_handle maker t) (with_handle_proper maker t s room) (new_is_live t maker) (absent_on_new t s.table pairs) once
@@ -155,7 +155,7 @@ installed_proper handle pairs t s dead taken once limit = elim (cases_Bool (hand
 
 -- ---- children
 
-pub children_live : (maker : Maker) (children : List (List (List ℕ × ℕ))) (t : HandleTable) (n : ℕ) → is_live t n ≡ true → is_live (with_children maker children t) n ≡ true
+pub children_live : (maker : Pair) (children : List (List (List ℕ × ℕ))) (t : HandleTable) (n : ℕ) → is_live t n ≡ true → is_live (with_children maker children t) n ≡ true
 children_live maker [] t n h = h
 children_live maker (pairs ∷ children) t n h = children_live maker children (with_child maker pairs t) n (live_beside (Some maker) t n h)
 
@@ -168,7 +168,7 @@ child_once pairs h = elim (cases_Bool (has_guid_twice pairs)) [
   ])
 ]
 
-pub children_proper : (maker : Maker) (children : List (List (List ℕ × ℕ))) (t : HandleTable) → IsProperTable t → list_all is_child children ≡ true → length t.handles + length children ≤ max_handles
+pub children_proper : (maker : Pair) (children : List (List (List ℕ × ℕ))) (t : HandleTable) → IsProperTable t → list_all is_child children ≡ true → length t.handles + length children ≤ max_handles
     → IsProperTable (with_children maker children t)
 children_proper maker [] t s h l = s
 children_proper maker (pairs ∷ children) t s h l = elim (cases_Bool (is_child pairs)) [

@@ -5,7 +5,7 @@ use Rattle.page_ranges.specs.declared.statuses.Status.{Status}
 use Rattle.page_ranges.specs.declared.statuses.Status.TheVariants.{InvalidParameter, NotFound, OutOfResources, DeviceError}
 use Rattle.guid_handles.specs.HandleTables.{HandleTable}
 use Rattle.guid_handles.proofs.SortedLists.{all_filter}
-use Rattle.open_agents.specs.declared.items.Manager.{Manager}
+use Rattle.guid_handles.specs.declared.records.Pair.{Pair}
 use Rattle.open_agents.specs.declared.items.OpenRecord.{OpenRecord}
 use Rattle.open_agents.specs.OpenItems.{without_items, manager_of}
 use Rattle.driver_connect.specs.Drivers.{Meaning}
@@ -26,10 +26,10 @@ pub stays_raised : (l : Lists) → IsRaised l l
 stays_raised l = record { numbers = omega arith; stamps = omega arith; keys = omega arith; counts = λ n h. one_higher n l.opens h }
 
 -- what is so of all items is so of those that a stop leaves
-pub all_left : (P : OpenRecord → Type 0) (ns : List ℕ) (pairs : List Manager) (opens : List OpenRecord) → AllByRecursion P opens → AllByRecursion P (without_opens ns pairs opens)
+pub all_left : (P : OpenRecord → Type 0) (ns : List ℕ) (pairs : List Pair) (opens : List OpenRecord) → AllByRecursion P opens → AllByRecursion P (without_opens ns pairs opens)
 all_left P ns pairs opens h = all_filter P (λ o. not (has_pair pairs (manager_of o))) (without_items (names_any ns) opens) (all_filter P (λ o. not (names_any ns o)) opens h)
 
-pub left_counts : (ns : List ℕ) (pairs : List Manager) (opens : List OpenRecord) (n : ℕ) → CountUpTo n opens → CountUpTo (n + 1) (without_opens ns pairs opens)
+pub left_counts : (ns : List ℕ) (pairs : List Pair) (opens : List OpenRecord) (n : ℕ) → CountUpTo n opens → CountUpTo (n + 1) (without_opens ns pairs opens)
 left_counts ns pairs opens n h = all_left (λ o. o.count ≤ n + 1) ns pairs opens (one_higher n opens h)
 
 same_raised : (l : Lists) (t : HandleTable) (opens : List OpenRecord) → t ≡ l.handles → opens ≡ l.opens → IsRaised l (record l { handles = t; opens = opens })

@@ -24,7 +24,7 @@ use Rattle.protocol_services.specs.Opening.{Closes, HandlesProtocol, OpensAs, Op
 use Rattle.protocol_services.specs.Removing.{Frees, Reinstalls, Replaces, Uninstalls, can_be_freed, freed, removal_refusal, replaced, uninstalled}
 use Rattle.protocol_services.specs.Driving.{ConnectsController, DisconnectsController}
 use Rattle.protocol_services.proofs.Freed.{freed_part, uninstalled_part}
-use Rattle.protocol_services.proofs.ProperRules.{CanInstall, many_allowed, unless_none}
+use Rattle.protocol_services.proofs.ProperRules.{many_allowed, unless_none}
 use Rattle.protocol_services.proofs.Raised.{disconnect_raised}
 
 -- no more numbers and stamps than a call may give

@@ -10,7 +10,7 @@ use Rattle.open_agents.specs.declared.items.OpenItem.{OpenItem}
 use Rattle.open_agents.specs.declared.items.Decision.TheVariants.{Refuse, Count, Add, StopFirst}
 use Rattle.open_agents.specs.OpenItems.{is_closed_by, items_on, with_item, without_items}
 use Rattle.open_agents.specs.OpenRule.{open_rule}
-use Rattle.driver_connect.specs.declared.stopping.Opener.{Opener}
+use Rattle.guid_handles.specs.declared.records.Pair.{Pair}
 use Rattle.driver_connect.specs.Drivers.{Meaning}
 use Rattle.protocol_services.specs.Lists.{Lists}
 use Rattle.protocol_services.specs.Stopping.{can_stop, once_stopped}
@@ -34,7 +34,7 @@ once_opened l handle guid agent controller attributes =
     record l { opens = with_item handle guid agent controller attributes l.opens }
 
 -- the opener of a call, which must stay
-abbrev pub opened_by : ℕ → ℕ → Option Opener
+abbrev pub opened_by : ℕ → ℕ → Option Pair
 opened_by agent controller = Some (record { agent = agent; controller = controller })
 
 -- What OpenProtocol returns where so much was decided, and the lists after it. An exclusive open

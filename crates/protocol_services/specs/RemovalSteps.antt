@@ -7,7 +7,7 @@ use Rattle.open_agents.specs.OpenItems.{is_keeping}
 use Rattle.driver_connect.specs.Drivers.{Meaning}
 use Rattle.driver_connect.specs.Stopping.{PlannedStop, planned_stop, takes_item}
 use Rattle.protocol_services.specs.Lists.{Lists}
-use Rattle.protocol_services.specs.Removing.{Frees, Replaces, can_be_freed, drivers_on, freed, replaced, uninstalled, without_opens_on}
+use Rattle.protocol_services.specs.Removing.{Frees, Replaces, can_be_freed, drivers_on, freed, uninstalled, without_opens_on}
 
 -- what the stop takes out that frees an interface
 abbrev pub stop_to_free : Lists → ℕ → List ℕ → PlannedStop
@@ -37,10 +37,6 @@ TakesOut handle guid t opens new_t new_opens =
 -- an interface that no driver has open goes, with the items on it
 abbrev pub uninstalled_idle : ℕ → List ℕ → Lists → Lists
 uninstalled_idle handle guid l = uninstalled handle guid (without_opens_on handle guid l)
-
--- an interface is freed and has another value and a new stamp
-abbrev pub freed_and_replaced : ℕ → List ℕ → ℕ → Lists → Lists
-freed_and_replaced handle guid value l = replaced handle guid value (freed handle guid l)
 
 -- Where events are returned, an interface was freed, a value was put in place of its own, and the
 -- handle was connected, by drivers of these meanings.

@@ -5,7 +5,7 @@ use Rattle.page_ranges.specs.declared.statuses.Status.{Status}
 use Rattle.page_ranges.specs.declared.statuses.Status.TheVariants.{InvalidParameter, NotFound, AccessDenied, OutOfResources}
 use Rattle.guid_handles.specs.HandleTables.{HandleTable, is_live, value_at}
 use Rattle.guid_handles.specs.HandleChanges.{with_value, without_interface}
-use Rattle.open_agents.specs.declared.items.Manager.{Manager}
+use Rattle.guid_handles.specs.declared.records.Pair.{Pair}
 use Rattle.open_agents.specs.declared.items.OpenItem.{OpenItem}
 use Rattle.open_agents.specs.declared.items.OpenRecord.{OpenRecord}
 use Rattle.open_agents.specs.OpenItems.{is_for_driver, is_kept, is_open_on, items_on, names, without_items}
@@ -31,15 +31,15 @@ removal_refusal t handle guid value =
 -- ---- freeing an interface
 
 -- the controller and the agent of an item of an interface
-abbrev pub manager_in : OpenItem → Manager
+abbrev pub manager_in : OpenItem → Pair
 manager_in i = record { controller = i.controller; agent = i.agent }
 
 -- the controllers and the agents of the items that are for a driver
-abbrev pub drivers_among : List OpenItem → List Manager
+abbrev pub drivers_among : List OpenItem → List Pair
 drivers_among items = map manager_in (filter (λ i. is_for_driver i.attributes) items)
 
 -- the managers that have an interface open
-abbrev pub drivers_on : List OpenRecord → ℕ → List ℕ → List Manager
+abbrev pub drivers_on : List OpenRecord → ℕ → List ℕ → List Pair
 drivers_on opens handle guid = drivers_among (items_on opens handle guid)
 
 -- the lists once these are stopped

@@ -1,22 +1,28 @@
--- The lists that a call may change and that are put back where it is refused.
-use Rattle.std.specs.Prelude.{List}
+-- The lists that a call may change and that are put back if it is refused.
+use Rattle.std.specs.Prelude.{List, Option, Some, None}
 use Rattle.guid_handles.specs.HandleTables.{HandleTable}
 use Rattle.open_agents.specs.declared.items.OpenRecord.{OpenRecord}
 use Rattle.protocol_services.specs.Lists.{Lists}
 
-pub record Saved : Type 0 where
-  pub handles : HandleTable
-  pub opens : List OpenRecord
+-- copies of the lists, of each that changes
+pub record SavedLists : Type 0 where
+  pub handles : Option HandleTable
+  pub opens : Option (List OpenRecord)
 
--- the lists of now that a call may change
-abbrev pub saved_of : Lists → Saved
-saved_of l = record { handles = l.handles; opens = l.opens }
+-- copies of both
+abbrev pub saved_of : Lists → SavedLists
+saved_of l = record { handles = Some l.handles; opens = Some l.opens }
 
--- the lists with those that were kept put back; the registrations stay
-abbrev pub put_back : Saved → Lists → Lists
+-- a copy, or what there is now if there is none
+abbrev pub copy_or : {T : Type 0} → Option T → T → T
+copy_or None now = now
+copy_or (Some copy) now = copy
+
+-- the lists with the copies put back; the registrations stay
+abbrev pub put_back : SavedLists → Lists → Lists
 put_back saved l =
-    record { handles = saved.handles; opens = saved.opens; registrations = l.registrations }
-
--- the lists with open items put back; the handles and the registrations stay
-abbrev pub with_opens : List OpenRecord → Lists → Lists
-with_opens opens l = record l { opens = opens }
+    record {
+      handles = copy_or saved.handles l.handles;
+      opens = copy_or saved.opens l.opens;
+      registrations = l.registrations;
+    }

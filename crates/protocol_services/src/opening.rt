@@ -2,13 +2,14 @@
 ghost use Rattle.std.specs.Prelude.{◌≡◌, ◌==◌, true, false, cond, is_some, None, Some, map};
 ghost use Rattle.guid_handles.specs.HandleTables.{carries, value_at};
 ghost use Rattle.protocol_services.specs.Lists.{IsRaised};
-ghost use Rattle.open_agents.specs.OpenRule.{has_equal};
+ghost use Rattle.open_agents.specs.OpenRequests.{decision_on, is_among};
 ghost use Rattle.protocol_services.specs.Opening.{Closes, HandlesProtocol, OpensProtocol, ReturnsItems, names_none, test_protocol};
-ghost use Rattle.protocol_services.specs.OpeningSteps.{OpensAfterStop, OpensAgain, OpensAnew, decision};
+ghost use Rattle.protocol_services.specs.OpeningSteps.{OpensAfterStop, OpensAgain, OpensAnew};
 
 use crate::protocols::Protocols;
-use driver_connect::{Driver, Opener, StopPlan};
-use open_agents::{BY_HANDLE_PROTOCOL, Decision, Manager, OpenItem, TEST_PROTOCOL};
+use driver_connect::{Driver, StopPlan};
+use guid_handles::Pair;
+use open_agents::{BY_HANDLE_PROTOCOL, Decision, OpenItem, OpenRequest, TEST_PROTOCOL};
 use page_ranges::Status;
 use std::alloc::Allocator;
 use uuid::Uuid;
@@ -34,126 +35,100 @@ impl<A: Allocator + Copy> Protocols<A> {
             self.new }
         ensures raised { IsRaised self.old self.new }
     {
-        let value = self.handles.interface(handle, guid);
-        match self.decide(value, handle, guid, agent, controller, attributes) {
-            Decision::Refuse(status) => Err(status),
-            Decision::StopFirst(manager) => {
-                let opener = Opener { agent, controller };
-                self.open_after_stop(drivers, manager, handle, guid, opener, attributes)
-            }
-            Decision::Count => self.count_open(value, handle, guid, agent, controller, attributes),
-            Decision::Add => self.add_open(value, handle, guid, agent, controller, attributes),
-        }
-    }
-
-    /// What is to be done about a call of OpenProtocol, by the value of the interface.
-    fn decide(
-        &self,
-        value: Option<u64>,
-        handle: u64,
-        guid: Uuid,
-        agent: u64,
-        controller: u64,
-        attributes: u32,
-    ) -> Decision
-        requires { is_some value ≡ carries self.now.handles guid handle }
-        ensures { result ≡ decision self.now handle guid agent controller attributes }
-    {
-        self.opens.decide_installed(
-            &self.handles,
-            value.is_some(),
+        let request = OpenRequest {
             handle,
             guid,
             agent,
             controller,
             attributes,
-        )
+        };
+        let value = self.handles.interface(handle, guid);
+        match self.decide(value, &request) {
+            Decision::Refuse(status) => Err(status),
+            Decision::StopFirst(manager) => self.open_after_stop(drivers, manager, &request),
+            Decision::Count => self.count_open(value, &request),
+            Decision::Add => self.add_open(value, &request),
+        }
+    }
+
+    /// What is to be done about a call of OpenProtocol, by the value of the interface.
+    fn decide(&self, value: Option<u64>, request: &OpenRequest) -> Decision
+        requires { is_some value ≡ carries self.now.handles request.now.guid request.now.handle }
+        ensures { result ≡ decision_on self.now.handles self.now.opens request.now }
+    {
+        self.opens
+            .decide_installed(&self.handles, value.is_some(), request)
     }
 
     /// Opens an interface for which there is an equal item, or for agent 0.
     fn count_open(
         &mut self,
         value: Option<u64>,
-        handle: u64,
-        guid: Uuid,
-        agent: u64,
-        controller: u64,
-        attributes: u32,
+        request: &OpenRequest,
     ) -> Result<Option<u64>, Status>
-        requires { value ≡ value_at self.old.handles handle guid }
-        ensures adds { OpensAnew self.old handle guid agent controller attributes result self.new }
-        ensures counts { OpensAgain
-            self.old handle guid agent controller attributes result self.new }
+        requires { value ≡ value_at self.old.handles request.now.handle request.now.guid }
+        ensures adds { OpensAnew self.old request.now result self.new }
+        ensures counts { OpensAgain self.old request.now result self.new }
         ensures raised { IsRaised self.old self.new }
     {
-        match self.opens.add(handle, guid, agent, controller, attributes) {
-            Ok(()) => Ok(returned_value(value, attributes)),
+        match self.opens.add_request(request) {
+            Ok(()) => Ok(returned_value(value, request.attributes)),
             Err(_) => Err(Status::OutOfResources),
         }
     }
 
     /// Opens an interface that no driver must give up first, where there is no equal item. OUT_OF_RESOURCES:
     /// memory ran out for a new item.
-    fn add_open(
-        &mut self,
-        value: Option<u64>,
-        handle: u64,
-        guid: Uuid,
-        agent: u64,
-        controller: u64,
-        attributes: u32,
-    ) -> Result<Option<u64>, Status>
-        requires value { value ≡ value_at self.old.handles handle guid }
-        requires new { has_equal self.old.opens handle guid agent controller attributes ≡ false }
-        ensures adds { OpensAnew self.old handle guid agent controller attributes result self.new }
+    fn add_open(&mut self, value: Option<u64>, request: &OpenRequest) -> Result<Option<u64>, Status>
+        requires value { value ≡ value_at self.old.handles request.now.handle request.now.guid }
+        requires new { is_among self.old.opens request.now ≡ false }
+        ensures adds { OpensAnew self.old request.now result self.new }
         ensures raised { IsRaised self.old self.new }
     {
-        match self
-            .opens
-            .add_new(handle, guid, agent, controller, attributes)
-        {
-            Ok(()) => Ok(returned_value(value, attributes)),
+        match self.opens.add_new(request) {
+            Ok(()) => Ok(returned_value(value, request.attributes)),
             Err(_) => Err(Status::OutOfResources),
         }
     }
 
-    /// Opens an interface for an opener, its agent and controller, after a manager is stopped.
+    /// Opens an interface after a manager is stopped.
     ///
     /// ACCESS_DENIED: it can't be stopped. OUT_OF_RESOURCES: memory ran out.
     fn open_after_stop<D: Driver>(
         &mut self,
         drivers: &[D],
-        manager: Manager,
-        handle: u64,
-        guid: Uuid,
-        opener: Opener,
-        attributes: u32,
+        manager: Pair,
+        request: &OpenRequest,
     ) -> Result<Option<u64>, Status>
         ensures opens { OpensAfterStop (map D.meaning drivers.now)
-            manager self.old handle guid opener attributes result self.new }
+            manager self.old request.now result self.new }
         ensures raised { IsRaised self.old self.new }
     {
         let Ok(plan) = StopPlan::new(self.alloc, &self.handles, &self.opens, &[manager]) else {
             return Err(Status::OutOfResources);
+        };
+        let opener = Pair {
+            agent: request.agent,
+            controller: request.controller,
         };
         match plan.can_be_carried_out(
             self.alloc,
             drivers,
             &self.handles,
             &self.opens,
-            handle,
+            request.handle,
             Some(opener),
         ) {
             Ok(true) => {}
             Ok(false) => return Err(Status::AccessDenied),
             Err(_) => return Err(Status::OutOfResources),
         }
-        let value = returned_value(self.handles.interface(handle, guid), attributes);
+        let value = returned_value(
+            self.handles.interface(request.handle, request.guid),
+            request.attributes,
+        );
         // The new item is none that the stop takes out. It comes first, as it may take memory.
-        match self
-            .opens
-            .add(handle, guid, opener.agent, opener.controller, attributes)
-        {
+        match self.opens.add_request(request) {
             Ok(()) => {
                 plan.carry_out(&mut self.handles, &mut self.opens);
                 Ok(value)
@@ -169,10 +144,17 @@ impl<A: Allocator + Copy> Protocols<A> {
         ensures opens { HandlesProtocol self.old handle guid result self.new }
         ensures raised { IsRaised self.old self.new }
     {
+        let request = OpenRequest {
+            handle,
+            guid,
+            agent: 0,
+            controller: 0,
+            attributes: BY_HANDLE_PROTOCOL,
+        };
         let value = self.handles.interface(handle, guid);
-        match self.decide(value, handle, guid, 0, 0, BY_HANDLE_PROTOCOL) {
+        match self.decide(value, &request) {
             Decision::Refuse(status) => Err(status),
-            _ => match self.count_open(value, handle, guid, 0, 0, BY_HANDLE_PROTOCOL) {
+            _ => match self.count_open(value, &request) {
                 Ok(Some(value)) => Ok(value),
                 Ok(None) => unreachable!(),
                 Err(status) => Err(status),

@@ -1,23 +1,21 @@
 //! Uninstalling and reinstalling interfaces.
-ghost use Rattle.std.specs.Prelude.{◌≡◌, ◌<◌, ◌^◌, true, map, IfOk, IsOk, OnOk, OnErr};
+ghost use Rattle.std.specs.Prelude.{◌≡◌, true, map, IfOk, IsOk, OnOk, OnErr};
 ghost use Rattle.std.specs.List.{list_any};
 ghost use Rattle.guid_handles.specs.HandleTables.{carries, value_at};
-ghost use Rattle.guid_handles.specs.HandleChanges.{IsHandleTable};
 ghost use Rattle.open_agents.specs.Blocks.{items_near};
 ghost use Rattle.open_agents.specs.OpenItems.{is_open_on, keeps, without_items};
-ghost use Rattle.driver_connect.specs.AfterStop.{opens_left};
-ghost use Rattle.driver_connect.specs.Stopping.{without_handles};
+ghost use Rattle.driver_connect.specs.Stopping.{without_handles, without_opens};
 ghost use Rattle.protocol_notify.specs.Registrations.{events_for};
 ghost use Rattle.protocol_services.specs.Lists.{HasRoom, IsRaised};
 ghost use Rattle.protocol_services.specs.Removing as spec;
-ghost use Rattle.protocol_services.specs.RemovalSteps.{FreesAndReplaces, PlansToFree, TakesOut, freed_and_replaced, keeps_after, stop_to_free, uninstalled_idle};
+ghost use Rattle.protocol_services.specs.RemovalSteps.{FreesAndReplaces, PlansToFree, TakesOut, keeps_after, stop_to_free, uninstalled_idle};
 ghost use Rattle.protocol_services.specs.RemovingMany.{is_free_to_go};
 
 use crate::protocols::Protocols;
 use crate::stops::drivers_near;
-use driver_connect::{Driver, StopPlan, is_ready_after, replace_and_connect};
+use driver_connect::{Driver, StopPlan, replace_and_connect};
 use guid_handles::{Handles, is_same_guid};
-use open_agents::{BY_CHILD_CONTROLLER, EXCLUSIVE, Near, OpenRecord, Opens, Usage, item_at};
+use open_agents::{BY_CHILD_CONTROLLER, EXCLUSIVE, Near, OpenRecord, Opens, Usage};
 use page_ranges::Status;
 use std::alloc::{AllocError, Allocator};
 use uuid::Uuid;
@@ -86,32 +84,11 @@ fn is_kept_after<A: Allocator + Copy>(
 ) -> bool
     ensures { result ≡ list_any (keeps_after plan.now handle guid) (items_near near.entry) }
 {
-    for place in near.places {
-        if let Some(o) = item_at(near.slots, *place) {
-            if keeps_after(plan, o, handle, guid) {
-                return true;
-            }
-        }
-    }
-    false
+    near.items().any(|o| keeps_after(plan, o, handle, guid))
 }
 
-/// Removes the items that go with the stop that frees an interface, and those that are left on it. This
-/// takes no memory.
-fn free_items<A: Allocator + Copy>(
-    plan: &StopPlan<A>,
-    opens: &mut Opens<A>,
-    handle: u64,
-    guid: Uuid,
-)
-    ensures { opens.new ≡ without_items (is_open_on handle guid) (opens_left plan.now opens.old) }
-{
-    plan.take_items(opens);
-    opens.drop_interface(handle, guid);
-}
-
-/// Carries out the stop that frees an interface, and removes the items that are left on it. This
-/// takes no memory.
+/// Carries out the stop that frees an interface, and removes the items that are left on it. This does
+/// not allocate.
 fn free<A: Allocator + Copy>(
     plan: &StopPlan<A>,
     handles: &mut Handles<A>,
@@ -121,10 +98,11 @@ fn free<A: Allocator + Copy>(
 )
     ensures handles { handles.new ≡ without_handles plan.now.handles handles.old }
     ensures opens { opens.new
-        ≡ without_items (is_open_on handle guid) (opens_left plan.now opens.old) }
+        ≡ without_items
+        (is_open_on handle guid) (without_opens plan.now.handles plan.now.pairs opens.old) }
 {
-    plan.take_handles(handles);
-    free_items(plan, opens, handle, guid);
+    plan.carry_out(handles, opens);
+    opens.drop_interface(handle, guid);
 }
 
 /// Removes the items of an interface, which are not looked for where there are none.
@@ -294,51 +272,20 @@ impl<A: Allocator + Copy> Protocols<A> {
         ensures err { OnErr result (self.new ≡ self.old) }
         ensures raised { IsRaised self.old self.new }
     {
-        if is_ready_after(
-            self.alloc,
-            plan,
-            &self.handles,
-            &self.opens,
-            drivers,
-            handle,
-            guid,
-            value,
-        )? {
-            self.replace_and_connect(plan, drivers, handle, guid, value)
-        } else {
-            self.replace_in_place(plan, handle, guid, value)
+        let given = self.registrations.signaled(guid)?;
+        let saved = self.saved_before(plan, handle, guid)?;
+        match self.free_and_connect(plan, drivers, handle, guid, value, given) {
+            Ok(events) => Ok(events),
+            Err(error) => {
+                self.put_back(saved);
+                Err(error)
+            }
         }
     }
 
-    /// Frees an interface and gives it another value. It returns the events of the GUID. On an `Err`
-    /// nothing changes.
-    fn replace_in_place(
-        &mut self,
-        plan: &StopPlan<A>,
-        handle: u64,
-        guid: Uuid,
-        value: u64,
-    ) -> Result<Vec<u64, A>, AllocError>
-        requires plan { plan.now ≡ stop_to_free self.old handle guid }
-        requires there { carries (spec.freed handle guid self.old).handles guid handle ≡ true }
-        requires stamps { self.old.handles.last_stamp < 2 ^ 62 }
-        ensures lists { OnOk result (self.new ≡ freed_and_replaced handle guid value self.old) }
-        ensures order { OnOk result (IsHandleTable self.new.handles) }
-        ensures events { IfOk result
-            (λ events. events.items ≡ events_for self.old.registrations guid) }
-        ensures err { OnErr result (self.new ≡ self.old) }
-    {
-        let events = self.registrations.signaled(guid)?;
-        free(plan, &mut self.handles, &mut self.opens, handle, guid);
-        self.handles.replace(handle, guid, value);
-        // The contract of this look-up says that the handles are in order.
-        let _numbers = self.handles.all();
-        Ok(events)
-    }
-
     /// Frees an interface, gives it another value and connects its handle with all below it. It returns
-    /// the events given, then those of the connect. On an `Err` memory ran out, and the open items that the
-    /// stop removed are gone.
+    /// the events given, then those of the connect. On an `Err` the interface is freed, and nothing else
+    /// changes.
     fn free_and_connect<D: Driver>(
         &mut self,
         plan: &StopPlan<A>,
@@ -355,13 +302,11 @@ impl<A: Allocator + Copy> Protocols<A> {
         ensures ok { FreesAndReplaces
             D.meaning drivers.now self.old handle guid value result self.new }
         ensures raised { OnOk result (IsRaised self.old self.new) }
-        ensures handles { OnErr result (self.new.handles ≡ self.old.handles) }
-        ensures registrations { self.new.registrations ≡ self.old.registrations }
+        ensures err { OnErr result (self.new ≡ spec.freed handle guid self.old) }
     {
-        free_items(plan, &mut self.opens, handle, guid);
+        free(plan, &mut self.handles, &mut self.opens, handle, guid);
         replace_and_connect(
             self.alloc,
-            plan,
             &mut self.handles,
             &mut self.opens,
             &self.registrations,
@@ -369,37 +314,7 @@ impl<A: Allocator + Copy> Protocols<A> {
             handle,
             guid,
             value,
-            given.as_slice(),
+            given,
         )
-    }
-
-    /// Frees an interface, gives it another value and connects its handle with all below it. It returns
-    /// the events of the GUID, then those of the connect. On an `Err` nothing changes: a copy of the open
-    /// items is put back.
-    fn replace_and_connect<D: Driver>(
-        &mut self,
-        plan: &StopPlan<A>,
-        drivers: &[D],
-        handle: u64,
-        guid: Uuid,
-        value: u64,
-    ) -> Result<Vec<u64, A>, AllocError>
-        requires plan { plan.now ≡ stop_to_free self.old handle guid }
-        requires there { carries (spec.freed handle guid self.old).handles guid handle ≡ true }
-        requires room { HasRoom self.old }
-        ensures ok { FreesAndReplaces
-            D.meaning drivers.now self.old handle guid value result self.new }
-        ensures err { OnErr result (self.new ≡ self.old) }
-        ensures raised { IsRaised self.old self.new }
-    {
-        let given = self.registrations.signaled(guid)?;
-        let opens = self.opens.try_copy()?;
-        match self.free_and_connect(plan, drivers, handle, guid, value, given) {
-            Ok(events) => Ok(events),
-            Err(error) => {
-                self.put_opens_back(opens);
-                Err(error)
-            }
-        }
     }
 }

@@ -8,8 +8,8 @@ ghost use Rattle.protocol_services.specs.Removing.{drivers_on};
 
 use crate::protocols::Protocols;
 use driver_connect::{children_of, managers_to_stop, pairs_to_stop};
-use guid_handles::is_same_guid;
-use open_agents::{Manager, Near, OpenRecord, is_for_driver, item_at};
+use guid_handles::{Pair, is_same_guid};
+use open_agents::{Near, OpenRecord, is_for_driver};
 use std::alloc::{AllocError, Allocator};
 use uuid::Uuid;
 
@@ -26,15 +26,13 @@ pub(crate) fn drivers_near<A: Allocator>(
     near: Near<'_>,
     handle: u64,
     guid: Uuid,
-) -> Result<Vec<Manager, A>, AllocError>
+) -> Result<Vec<Pair, A>, AllocError>
     ensures { IfOk result (λ v. v.items ≡ drivers_on (items_near near.entry) handle guid) }
 {
     let mut pairs = Vec::new(alloc);
-    for place in near.places {
-        if let Some(o) = item_at(near.slots, *place) {
-            if is_driving(o, handle, guid) {
-                pairs.push(o.manager())?;
-            }
+    for o in near.items() {
+        if is_driving(o, handle, guid) {
+            pairs.push(o.manager())?;
         }
     }
     Ok(pairs)
@@ -43,7 +41,7 @@ pub(crate) fn drivers_near<A: Allocator>(
 impl<A: Allocator + Copy> Protocols<A> {
     /// The managers to be stopped, in order, before an interface that drivers have open can be opened exclusively,
     /// uninstalled or reinstalled.
-    pub fn stops_on_interface(&self, handle: u64, guid: Uuid) -> Result<Vec<Manager, A>, AllocError>
+    pub fn stops_on_interface(&self, handle: u64, guid: Uuid) -> Result<Vec<Pair, A>, AllocError>
         ensures { IfOk result
             (λ v. v.items ≡ stop_order
             (planned_stop self.now.handles self.now.opens
@@ -55,11 +53,7 @@ impl<A: Allocator + Copy> Protocols<A> {
 
     /// The managers to be stopped, in order, before a handle can be disconnected from the drivers that manage
     /// it, or from one of them if `driver` is not 0.
-    pub fn stops_on_controller(
-        &self,
-        handle: u64,
-        driver: u64,
-    ) -> Result<Vec<Manager, A>, AllocError>
+    pub fn stops_on_controller(&self, handle: u64, driver: u64) -> Result<Vec<Pair, A>, AllocError>
         ensures { IfOk result
             (λ v. v.items ≡ stop_order
             (planned_stop self.now.handles self.now.opens
@@ -74,7 +68,7 @@ impl<A: Allocator + Copy> Protocols<A> {
             (λ v. v.items ≡ children self.now.handles self.now.opens
             (record { controller = controller; agent = agent })) }
     {
-        let manager = Manager { controller, agent };
+        let manager = Pair { controller, agent };
         children_of(self.alloc, &self.handles, &self.opens, manager)
     }
 }

@@ -1,6 +1,5 @@
 use Rattle.std.proofs.Common.{◌≡◌, ◌++◌, [], ◌∷◌, length, length-append, ap, map, sym, ◌∙◌, rules, arith}
 use Rattle.std.specs.Prelude.{option_to_list}
-use Rattle.driver_connect.specs.Beside.{reached}
 use Rattle.driver_connect.specs.Pending.{all_connected}
 use Rattle.driver_connect.proofs.GoingOn.{goes_further}
 use Rattle.driver_connect.proofs.Pending.{last_connected}
@@ -22,8 +21,8 @@ loop-next-preserved g c =
     let popped : c.loop-next.pending.items ≡ rest ++ (c.in-Some.next ∷ []) = c.pop.ensures.items ∙ ap (λ o. rest ++ option_to_list o) c.in-Some.is in
     record {
       progress =
-          c.in_ok-connect_one.ensures.progress ∙ sym (last_connected drivers c.args.notify.now rest c.in-Some.next (reached c.loop-next.connecting))
-          ∙ ap (λ xs. all_connected drivers c.args.notify.now xs (reached c.loop-next.connecting)) (sym popped) ∙ c.loop-next.invariant.progress;
+          c.in_ok-connect_one.ensures.progress ∙ sym (last_connected drivers c.args.notify.now rest c.in-Some.next c.loop-next.connecting)
+          ∙ ap (λ xs. all_connected drivers c.args.notify.now xs c.loop-next.connecting) (sym popped) ∙ c.loop-next.invariant.progress;
       limit = c.in_ok-connect_one.ensures.limit;
       grows = search rules;
       goes_on = goes_further _ _ _ c.loop-next.invariant.goes_on c.connect_one-in-Some.ensures.goes_on;

@@ -1,6 +1,5 @@
 use Rattle.std.proofs.Common.{◌≡◌, ◌+◌, ◌-◌, ◌≤◌, map, length}
 use Rattle.guid_handles.specs.HandleChanges.{max_in_table}
-use Rattle.driver_connect.specs.Beside.{reached}
 use Rattle.driver_connect.specs.Connecting.{connected}
 use Rattle.driver_connect.specs.GoingOn.{GoesOn}
 use Rattle.driver_connect.specs.Pending.{all_connected}
@@ -11,8 +10,8 @@ use Rattle.driver_connect.proofs.connecting.connect_levels.Given as goal
 abbrev pub invariant-loop-next : goal.invariant-loop-next
 invariant-loop-next g l = record {
   progress :
-      all_connected (map g.D.Driver.meaning l.drivers) l.notify l.pending.items (reached l.connecting)
-      ≡ connected l.levels (site (map g.D.Driver.meaning l.drivers) l.notify l.controller) l.named (reached l.fn.connecting);
+      all_connected (map g.D.Driver.meaning l.drivers) l.notify l.pending.items l.connecting
+      ≡ connected l.levels (site (map g.D.Driver.meaning l.drivers) l.notify l.controller) l.named l.fn.connecting;
   limit : length l.connecting.handles.handles ≤ max_in_table;
   grows : Grows l.fn.connecting.handles l.connecting.handles;
   goes_on : GoesOn l.fn.connecting l.connecting;

@@ -5,6 +5,6 @@ use Rattle.driver_connect.proofs.pairs.add_rounds.Given as goal
 
 abbrev pub invariant-loop-k : goal.invariant-loop-k
 invariant-loop-k g l = record {
-  so_far : rounds (l.count - l.k) l.handles l.opens l.set ≡ rounds l.count l.handles l.opens l.fn.set;
-  older : AreAsked l.handles l.opens l.set l.asked;
+  so_far : rounds (l.count - l.k) l.handles l.opens l.set.items ≡ rounds l.count l.handles l.opens l.fn.set.items;
+  older : AreAsked l.handles l.opens l.set.items l.asked;
 }

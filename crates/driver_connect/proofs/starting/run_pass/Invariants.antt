@@ -1,5 +1,4 @@
 use Rattle.std.proofs.Common.{◌≡◌, map, drop}
-use Rattle.driver_connect.specs.Beside.{reached}
 use Rattle.driver_connect.specs.GoingOn.{GoesOn}
 use Rattle.driver_connect.specs.Room.{HasRoom, Grows}
 use Rattle.driver_connect.specs.Starting.{site, joined, pass, protocols_at}
@@ -8,9 +7,9 @@ use Rattle.driver_connect.proofs.starting.run_pass.Given as goal
 abbrev pub invariant-loop-agent : goal.invariant-loop-agent
 invariant-loop-agent g l = record {
   whole :
-      joined l.pass.starts.items l.pass.left.items (pass (site (map g.D.Driver.meaning l.drivers) l.notify l.controller) (drop l.agent-index l.agents) (reached l.connecting))
-      ≡ pass (site (map g.D.Driver.meaning l.drivers) l.notify l.controller) l.agents (reached l.fn.connecting);
-  protocols : l.protocols.items ≡ protocols_at (reached l.connecting) l.controller;
+      joined l.pass.starts.items l.pass.left.items (pass (site (map g.D.Driver.meaning l.drivers) l.notify l.controller) (drop l.agent-index l.agents) l.connecting)
+      ≡ pass (site (map g.D.Driver.meaning l.drivers) l.notify l.controller) l.agents l.fn.connecting;
+  protocols : l.protocols.items ≡ protocols_at l.connecting l.controller;
   grows : Grows l.fn.connecting.handles l.connecting.handles;
   goes_on : GoesOn l.fn.connecting l.connecting;
   room : HasRoom l.connecting.handles;

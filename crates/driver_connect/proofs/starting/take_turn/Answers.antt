@@ -1,6 +1,5 @@
-use Rattle.std.proofs.Common.{◌≡◌, true, false, sym, ◌∙◌}
-use Rattle.driver_connect.specs.Beside.{reached}
-use Rattle.driver_connect.specs.Starting.{is_carried_out, is_supported, site_of}
+use Rattle.std.proofs.Common.{◌≡◌, true, false, sym, ap, ◌∙◌}
+use Rattle.driver_connect.specs.Starting.{Progress, is_carried_out, is_supported, site_of}
 use Rattle.driver_connect.proofs.GoingOn.{goes_nowhere}
 use Rattle.driver_connect.proofs.Passes.{turn_of}
 use Rattle.driver_connect.proofs.starting.take_turn.Goals as goal
@@ -14,24 +13,28 @@ returns-then-not-can_start-clause-goes_on g c = goes_nowhere c.args.connecting.n
 pub returns-then-not-can_start-clause-turn : goal.returns-then-not-can_start-clause-turn
 returns-then-not-can_start-clause-turn g c =
     let site = site_of g.D.Driver.meaning c.args.drivers.now c.args.notify.now c.args.controller in
-    let s : is_supported site (reached c.args.connecting.now) c.args.agent.now ≡ true = rw c.requires.protocols at (sym c.supports_at.ensures.supports ∙ c.if-not-supports_at.false) in
-    let k : is_carried_out site (reached c.args.connecting.now) c.args.agent.now ≡ false = rw (c.plan_at-plan.ensures, c.requires.protocols) at (sym (c.can_start.ensures (reached c.args.connecting.now).handles c.count.ensures.count) ∙ c.if-not-can_start.true) in
-    (turn_of site (reached c.args.connecting.now) c.args.agent.now false s k).0
+    let table = ap (λ (p : Progress). p.handles) c.connecting.view_is in
+    let s : is_supported site c.args.connecting.now c.args.agent.now ≡ true = rw c.requires.protocols at (sym c.supports_at.ensures.supports ∙ c.if-not-supports_at.false) in
+    let k : is_carried_out site c.args.connecting.now c.args.agent.now ≡ false = rw (c.plan_at-plan.ensures, c.requires.protocols, table) at (sym c.can_start.ensures ∙ c.if-not-can_start.true) in
+    (turn_of site c.args.connecting.now c.args.agent.now false s k).0
 
 pub returns-then-not-can_start-clause-progress : goal.returns-then-not-can_start-clause-progress
 returns-then-not-can_start-clause-progress g c =
     let site = site_of g.D.Driver.meaning c.args.drivers.now c.args.notify.now c.args.controller in
-    let s : is_supported site (reached c.args.connecting.now) c.args.agent.now ≡ true = rw c.requires.protocols at (sym c.supports_at.ensures.supports ∙ c.if-not-supports_at.false) in
-    let k : is_carried_out site (reached c.args.connecting.now) c.args.agent.now ≡ false = rw (c.plan_at-plan.ensures, c.requires.protocols) at (sym (c.can_start.ensures (reached c.args.connecting.now).handles c.count.ensures.count) ∙ c.if-not-can_start.true) in
-    (turn_of site (reached c.args.connecting.now) c.args.agent.now false s k).1
+    let table = ap (λ (p : Progress). p.handles) c.connecting.view_is in
+    let s : is_supported site c.args.connecting.now c.args.agent.now ≡ true = rw c.requires.protocols at (sym c.supports_at.ensures.supports ∙ c.if-not-supports_at.false) in
+    let k : is_carried_out site c.args.connecting.now c.args.agent.now ≡ false = rw (c.plan_at-plan.ensures, c.requires.protocols, table) at (sym c.can_start.ensures ∙ c.if-not-can_start.true) in
+    (turn_of site c.args.connecting.now c.args.agent.now false s k).1
 
 pub carry_out-requires-clause-can : goal.carry_out-requires-clause-can
 carry_out-requires-clause-can g c =
-    rw c.requires.protocols at (sym (c.can_start.ensures (reached c.args.connecting.now).handles c.count.ensures.count) ∙ c.if-not-can_start.false)
+    let table = ap (λ (p : Progress). p.handles) c.connecting.view_is in
+    rw (c.requires.protocols, table) at (sym c.can_start.ensures ∙ c.if-not-can_start.false)
 
 pub returns-clause-turn : goal.returns-clause-turn
 returns-clause-turn g c =
     let site = site_of g.D.Driver.meaning c.args.drivers.now c.args.notify.now c.args.controller in
-    let s : is_supported site (reached c.args.connecting.now) c.args.agent.now ≡ true = rw c.requires.protocols at (sym c.supports_at.ensures.supports ∙ c.if-not-supports_at.false) in
-    let k : is_carried_out site (reached c.args.connecting.now) c.args.agent.now ≡ true = rw (c.plan_at-plan.ensures, c.requires.protocols) at (sym (c.can_start.ensures (reached c.args.connecting.now).handles c.count.ensures.count) ∙ c.if-not-can_start.false) in
-    (turn_of site (reached c.args.connecting.now) c.args.agent.now true s k).0
+    let table = ap (λ (p : Progress). p.handles) c.connecting.view_is in
+    let s : is_supported site c.args.connecting.now c.args.agent.now ≡ true = rw c.requires.protocols at (sym c.supports_at.ensures.supports ∙ c.if-not-supports_at.false) in
+    let k : is_carried_out site c.args.connecting.now c.args.agent.now ≡ true = rw (c.plan_at-plan.ensures, c.requires.protocols, table) at (sym c.can_start.ensures ∙ c.if-not-can_start.false) in
+    (turn_of site c.args.connecting.now c.args.agent.now true s k).0

@@ -1,9 +1,7 @@
-use Rattle.std.proofs.Common.{◌≡◌, ◌++◌, drop}
-use Rattle.open_agents.specs.Blocks.{items_at}
+use Rattle.std.proofs.Common.{◌≡◌, ◌++◌}
+use Rattle.open_agents.specs.Blocks.{items_near}
 use Rattle.protocol_services.specs.Removing.{drivers_on}
 use Rattle.protocol_services.proofs.stops.drivers_near.Given as goal
 
-abbrev pub invariant-loop-place : goal.invariant-loop-place
-invariant-loop-place g l =
-    l.pairs.items ++ drivers_on (items_at l.near.slots.now (drop l.place-index l.near.places.now)) l.handle l.guid
-    ≡ drivers_on (items_at l.near.slots.now l.near.places.now) l.handle l.guid
+abbrev pub invariant-loop-o : goal.invariant-loop-o
+invariant-loop-o g l = l.pairs.items ++ drivers_on l.o-iterator l.handle l.guid ≡ drivers_on (items_near l.near) l.handle l.guid

@@ -3,7 +3,7 @@ use super::steps::{Step, assert_steps};
 use super::{BINDING, guid, opening};
 use arrayvec::ArrayVec;
 use driver_connect::{Driver, TableDriver};
-use open_agents::Manager;
+use guid_handles::Pair;
 use page_ranges::Status;
 use std::process::Abort;
 use uuid::Uuid;
@@ -35,7 +35,7 @@ const BOXED: &[Step] = &[
     Step::Connect(1, &[2], true, Status::Success),
     Step::Managers(
         1,
-        &[Manager {
+        &[Pair {
             controller: 1,
             agent: 2,
         }],

@@ -5,7 +5,7 @@ ghost use Rattle.protocol_tests.specs.Probes as spec;
 use super::steps::{Step, assert_steps};
 use super::{BINDING, guid, opening};
 use driver_connect::{Driver, ProtocolView, StartPlan, View};
-use open_agents::Manager;
+use guid_handles::Pair;
 use page_ranges::Status;
 use uuid::Uuid;
 
@@ -80,11 +80,11 @@ const SECOND_PASS: &[Step] = &[
     Step::Managers(
         1,
         &[
-            Manager {
+            Pair {
                 controller: 1,
                 agent: 3,
             },
-            Manager {
+            Pair {
                 controller: 1,
                 agent: 2,
             },
@@ -127,7 +127,7 @@ const STAYS: &[Step] = &[
     Step::Disconnect(1, 2, Status::Success),
     Step::Managers(
         4,
-        &[Manager {
+        &[Pair {
             controller: 4,
             agent: 2,
         }],

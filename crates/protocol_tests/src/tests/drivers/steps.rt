@@ -1,8 +1,8 @@
 //! Calls on lists, and what is asserted of them, as tables.
 use super::guid;
 use driver_connect::{Driver, connect, disconnect};
-use guid_handles::Handles;
-use open_agents::{Manager, Opens};
+use guid_handles::{Handles, Pair};
+use open_agents::Opens;
 use page_ranges::Status;
 use protocol_notify::Notify;
 use std::alloc::Global;
@@ -20,7 +20,7 @@ pub enum Step {
     /// A handle, a driver or 0, and the status.
     Disconnect(u64, u64, Status),
     /// A handle, and what manages it.
-    Managers(u64, &'static [Manager]),
+    Managers(u64, &'static [Pair]),
 }
 
 /// The lists that drivers are tried on.
@@ -100,7 +100,7 @@ fn disconnect_one<D: Driver>(
 }
 
 /// Whether a handle has these managers.
-fn are_managers(opens: &Opens, handle: u64, wanted: &[Manager]) -> bool {
+fn are_managers(opens: &Opens, handle: u64, wanted: &[Pair]) -> bool {
     match opens.managers(handle) {
         Ok(managers) => managers.as_slice() == wanted,
         Err(_) => false,

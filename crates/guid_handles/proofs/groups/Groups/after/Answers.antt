@@ -1,17 +1,12 @@
-use Rattle.std.proofs.Common.{refl, sym}
-use Rattle.guid_handles.proofs.Grouped.{no_turns, turns_returned}
+use Rattle.std.proofs.Common.{sym}
+use Rattle.guid_handles.proofs.Grouped.{next_found, next_none}
 use Rattle.guid_handles.proofs.groups.Groups.after.Goals as goal
 
-pub returns-in-Some-clause-after : goal.returns-in-Some-clause-after
-returns-in-Some-clause-after g c =
-    rw (← c.self.view_is, turns_returned _ c.args.guid _ (rw c.as_slice.ensures.value at c.in-Some.ensures)) c.after.ensures.after
+pub group_of-requires : goal.group_of-requires
+group_of-requires g c = rw c.as_slice.ensures.value c.self.invariant.ascending
 
-pub returns-in-Some-clause-ascending : goal.returns-in-Some-clause-ascending
-returns-in-Some-clause-ascending g c =
-    rw (← c.self.view_is, turns_returned _ c.args.guid _ (rw c.as_slice.ensures.value at c.in-Some.ensures)) c.after.ensures.ascending
+pub returns-in-Some : goal.returns-in-Some
+returns-in-Some g c = rw (← c.self.view_is) (next_found _ c.args.guid c.args.mark _ _ (rw c.as_slice.ensures.value at c.in-Some.ensures) c.after.ensures)
 
-pub returns-in-None-clause-after : goal.returns-in-None-clause-after
-returns-in-None-clause-after g c = rw (← c.self.view_is, no_turns _ c.args.guid (sym (rw c.as_slice.ensures.value at c.in-None.ensures))) refl
-
-pub returns-in-None-clause-ascending : goal.returns-in-None-clause-ascending
-returns-in-None-clause-ascending g c = rw (← c.self.view_is, no_turns _ c.args.guid (sym (rw c.as_slice.ensures.value at c.in-None.ensures))) tt
+pub returns-in-None : goal.returns-in-None
+returns-in-None g c = rw (← c.self.view_is) (next_none _ c.args.guid c.args.mark (sym (rw c.as_slice.ensures.value at c.in-None.ensures)))

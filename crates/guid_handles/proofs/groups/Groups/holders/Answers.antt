@@ -2,7 +2,7 @@ use Rattle.guid_handles.proofs.Grouped.{holders_returned}
 use Rattle.guid_handles.proofs.groups.Groups.holders.Goals as goal
 
 pub group_of-requires : goal.group_of-requires
-group_of-requires g c = rw c.as_slice.ensures.value c.self.invariant
+group_of-requires g c = rw c.as_slice.ensures.value c.self.invariant.ascending
 
 pub returns-in-Some-clause-those : goal.returns-in-Some-clause-those
 returns-in-Some-clause-those g c =

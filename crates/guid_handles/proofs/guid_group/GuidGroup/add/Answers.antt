@@ -7,12 +7,12 @@ use Rattle.guid_handles.proofs.guid_group.GuidGroup.add.Goals as goal
 pub invariant_of-self-2 : goal.invariant_of-self-2
 invariant_of-self-2 g c =
     rw (c.insert-2.ensures, c.insert.ensures, c.reserve.ensures.items, c.reserve-2.ensures.items)
-    (insert_beside _ _ _ c.args.handle c.args.key c.self.invariant (rw (← c.self.view_is) at c.requires.absent) (rw c.as_slice.ensures.value at c.count_less_than_new-at.ensures.place))
+    (insert_beside _ _ _ c.args.handle c.args.stamp c.self.invariant (rw (← c.self.view_is) at c.requires) (rw c.as_slice.ensures.value at c.count_less_than_new-at.ensures.place))
 
 pub returns-clause-ok : goal.returns-clause-ok
 returns-clause-ok g c = λ n.
     rw (← c.self.view_is, c.insert-2.ensures, c.insert.ensures, c.reserve.ensures.items, c.reserve-2.ensures.items)
-    (beside_insert _ _ _ c.args.handle c.args.key n c.self.invariant.even (rw (← c.self.view_is) at c.requires.absent))
+    (beside_insert _ _ _ c.args.handle c.args.stamp n c.self.invariant.even (rw (← c.self.view_is) at c.requires))
 
 pub insert-requires-clause-place : goal.insert-requires-clause-place
 insert-requires-clause-place g c = rw (c.reserve-2.ensures.items, ← c.as_slice.ensures.value) c.count_less_than_new-at.ensures.bound
@@ -26,17 +26,11 @@ insert-requires-2-clause-place g c = rw (c.reserve.ensures.items, ← c.self.inv
 pub insert-requires-2-clause-room : goal.insert-requires-2-clause-room
 insert-requires-2-clause-room g c = c.in_ok-reserve.ensures.room
 
-pub push-requires : goal.push-requires
-push-requires g c = rw (← c.self.view_is) at c.requires.last
-
 pub invariant_of-self : goal.invariant_of-self
 invariant_of-self g c = rw c.reserve.ensures.items c.self.invariant
 
 pub invariant_of-self-in_err-reserve-2 : goal.invariant_of-self-in_err-reserve-2
 invariant_of-self-in_err-reserve-2 g c = rw (c.reserve.ensures.items, c.reserve-2.ensures.items) c.self.invariant
-
-pub invariant_of-self-in_err-place : goal.invariant_of-self-in_err-place
-invariant_of-self-in_err-place g c = rw (c.reserve.ensures.items, c.reserve-2.ensures.items) c.self.invariant
 
 pub returns-in_err-reserve-clause-err : goal.returns-in_err-reserve-clause-err
 returns-in_err-reserve-clause-err g c = on_err c.from_residual.result _ (rw (← c.self.view_is, c.reserve.ensures.items) refl)
@@ -44,14 +38,8 @@ returns-in_err-reserve-clause-err g c = on_err c.from_residual.result _ (rw (←
 pub returns-in_err-reserve-2-clause-err : goal.returns-in_err-reserve-2-clause-err
 returns-in_err-reserve-2-clause-err g c = on_err c.from_residual-in_err-reserve-2.result _ (rw (← c.self.view_is, c.reserve.ensures.items, c.reserve-2.ensures.items) refl)
 
-pub returns-in_err-place-clause-err : goal.returns-in_err-place-clause-err
-returns-in_err-place-clause-err g c = on_err c.from_residual-in_err-place.result _ (rw (← c.self.view_is, c.reserve.ensures.items, c.reserve-2.ensures.items, c.in_err-place.ensures.err) refl)
-
 pub returns-clause-guid : goal.returns-clause-guid
 returns-clause-guid g c = rw (← c.self.view_is) refl
-
-pub returns-clause-turns : goal.returns-clause-turns
-returns-clause-turns g c = rw (← c.self.view_is) c.in_ok-place.ensures.ok
 
 pub count_less_than_new-at-requires : goal.count_less_than_new-at-requires
 count_less_than_new-at-requires g c = rw c.as_slice.ensures.value c.self.invariant.ascending
@@ -62,23 +50,8 @@ returns-in_err-reserve-clause-guid g c = rw (← c.self.view_is) refl
 pub returns-in_err-reserve-clause-ok : goal.returns-in_err-reserve-clause-ok
 returns-in_err-reserve-clause-ok g c = IfOk-from_err c.from_residual.result _ c.from_residual.ensures.0
 
-pub returns-in_err-reserve-clause-turns : goal.returns-in_err-reserve-clause-turns
-returns-in_err-reserve-clause-turns g c = IfOk-from_err c.from_residual.result _ c.from_residual.ensures.0
-
 pub returns-in_err-reserve-2-clause-guid : goal.returns-in_err-reserve-2-clause-guid
 returns-in_err-reserve-2-clause-guid g c = rw (← c.self.view_is) refl
 
 pub returns-in_err-reserve-2-clause-ok : goal.returns-in_err-reserve-2-clause-ok
 returns-in_err-reserve-2-clause-ok g c = IfOk-from_err c.from_residual-in_err-reserve-2.result _ c.from_residual-in_err-reserve-2.ensures.0
-
-pub returns-in_err-reserve-2-clause-turns : goal.returns-in_err-reserve-2-clause-turns
-returns-in_err-reserve-2-clause-turns g c = IfOk-from_err c.from_residual-in_err-reserve-2.result _ c.from_residual-in_err-reserve-2.ensures.0
-
-pub returns-in_err-place-clause-guid : goal.returns-in_err-place-clause-guid
-returns-in_err-place-clause-guid g c = rw (← c.self.view_is) refl
-
-pub returns-in_err-place-clause-ok : goal.returns-in_err-place-clause-ok
-returns-in_err-place-clause-ok g c = IfOk-from_err c.from_residual-in_err-place.result _ c.from_residual-in_err-place.ensures.0
-
-pub returns-in_err-place-clause-turns : goal.returns-in_err-place-clause-turns
-returns-in_err-place-clause-turns g c = IfOk-from_err c.from_residual-in_err-place.result _ c.from_residual-in_err-place.ensures.0

@@ -1,11 +1,8 @@
 use Rattle.std.proofs.Common.{sym, ap, ◌∙◌}
 use Rattle.std.specs.Option.{option_and_then}
 use Rattle.guid_handles.specs.Slots.{at_key}
-use Rattle.guid_handles.proofs.Stored.{keys_agree, stored_at}
+use Rattle.guid_handles.proofs.Stored.{stored_at}
 use Rattle.guid_handles.proofs.handles.Handles.find.Goals as goal
-
-pub key_of-requires : goal.key_of-requires
-key_of-requires g c = keys_agree _ _ _ _ _ _ c.self.invariant
 
 pub returns-in-Some : goal.returns-in-Some
 returns-in-Some g c =

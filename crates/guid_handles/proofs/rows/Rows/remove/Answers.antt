@@ -2,7 +2,7 @@ use Rattle.std.proofs.Common.{sym, ◌∙◌}
 use Rattle.std.proofs.lemmas.Option.{same_Some}
 use Rattle.guid_handles.proofs.Grouped.{got}
 use Rattle.guid_handles.proofs.FiledRows.{filed_there, marked_ascend}
-use Rattle.guid_handles.proofs.Made.{blocks_ascend, rows_without}
+use Rattle.guid_handles.proofs.Made.{lists_ascend, rows_without}
 use Rattle.guid_handles.proofs.Numbered.{none_removed}
 use Rattle.guid_handles.proofs.rows.Rows.remove.Goals as goal
 
@@ -53,4 +53,4 @@ pub remove_number-requires : goal.remove_number-requires
 remove_number-requires g c = c.self.invariant.rows.ascending
 
 pub forget_made-requires : goal.forget_made-requires
-forget_made-requires g c = blocks_ascend _ _ _ c.self.invariant
+forget_made-requires g c = lists_ascend _ _ _ c.self.invariant

@@ -1,4 +1,5 @@
+use Rattle.open_agents.proofs.Asked.{none_named}
 use Rattle.open_agents.proofs.opens.Opens.drop_agent.Goals as goal
 
-pub drop_passing-requires : goal.drop_passing-requires
-drop_passing-requires g c = λ o h. h
+pub forget_agent-requires : goal.forget_agent-requires
+forget_agent-requires g c = none_named c.args.handle _ _ c.drop_anywhere.ensures

@@ -6,20 +6,25 @@ pub returns-clause-ok : goal.returns-clause-ok
 returns-clause-ok g c =
     rw (c.push_reserved.ensures.items, c.reserve.ensures.items, ← c.self.view_is) (items_pushed c.self.inside.slots.items c.args.item.now)
 
-pub file_place-requires : goal.file_place-requires
-file_place-requires g c = rw (c.as_slice-place.ensures.value, c.reserve.ensures.items) (next_free _ _ _ c.self.invariant.0)
+pub add_place-requires : goal.add_place-requires
+add_place-requires g c = c.self.invariant.0.ascending
 
-pub invariant_of-self-in_err-file_place : goal.invariant_of-self-in_err-file_place
-invariant_of-self-in_err-file_place g c =
-    rw (c.reserve.ensures.items, c.in_err-file_place.ensures.no_agent)
-    (store_stays _ _ _ _ c.self.invariant.0 c.in_err-file_place.ensures.err, c.self.invariant.1)
+pub push_in_both-requires : goal.push_in_both-requires
+push_in_both-requires g c = rw (c.as_slice-place.ensures.value, c.reserve.ensures.items) (next_free _ _ _ c.self.invariant.0)
+
+pub invariant_of-self-in_err-add_place : goal.invariant_of-self-in_err-add_place
+invariant_of-self-in_err-add_place g c = rw (c.reserve.ensures.items, c.in_err-add_place.ensures.err) c.self.invariant
+
+pub invariant_of-self-in_err-push_in_both : goal.invariant_of-self-in_err-push_in_both
+invariant_of-self-in_err-push_in_both g c =
+    rw (c.reserve.ensures.items)
+    (store_stays _ c.args.item.now.agent _ _ _ _ c.self.invariant.0 c.in_err-push_in_both.ensures.err c.in_ok-add_place.ensures.ascending c.in_ok-add_place.ensures.has, c.self.invariant.1)
 
 pub invariant_of-self-2 : goal.invariant_of-self-2
 invariant_of-self-2 g c =
     rw (c.push_reserved.ensures.items, c.reserve.ensures.items) (
-      store_pushed _ c.args.item.now _ _ _ _ c.self.invariant.0 (rw (← c.self.view_is) at c.requires.new) c.requires.agent
-          (rw (c.as_slice-place.ensures.value, c.reserve.ensures.items) at c.in_ok-file_place.ensures.blocks)
-          (rw (c.as_slice-place.ensures.value, c.reserve.ensures.items) at c.in_ok-file_place.ensures.agents),
+      store_pushed _ c.args.item.now _ _ _ _ c.self.invariant.0 (rw (← c.self.view_is) at c.requires.new) c.requires.agent c.in_ok-add_place.ensures.ascending c.in_ok-add_place.ensures.has
+          (rw (c.as_slice-place.ensures.value, c.reserve.ensures.items, c.second_block.ensures) at c.in_ok-push_in_both.ensures.ok),
       rw (count_pushed c.self.inside.slots.items c.args.item.now) (ap (λ n. n + 1) c.self.invariant.1),
     )
 

@@ -1,5 +1,5 @@
 use Rattle.std.proofs.Common.{is_some, sym, ap, ◌∙◌}
-use Rattle.open_agents.specs.Blocks.{is_in_block}
+use Rattle.open_agents.specs.Blocks.{is_near}
 use Rattle.open_agents.proofs.Asked.{none_dropped}
 use Rattle.open_agents.proofs.Dropping.{finds_any, index_bound, none_from}
 use Rattle.open_agents.proofs.Placed.{vacated_smaller, without_held}
@@ -8,12 +8,12 @@ use Rattle.open_agents.proofs.store.ItemStore.drop_passing.Goals as goal
 pub last_below-found-requires-clause-bound : goal.last_below-found-requires-clause-bound
 last_below-found-requires-clause-bound g c =
     let last = rw c.in-Some.is at c.loop-found.invariant.found in
-    rw c.remove.ensures (index_bound (is_in_block c.args.block) c.loop-found.self c.in-Some.last.place c.in-Some.last.index last.1)
+    rw c.remove.ensures (index_bound (is_near c.args.handle) c.loop-found.self c.in-Some.last.place c.in-Some.last.index last.1)
 
 pub last_below-found-requires-clause-behind : goal.last_below-found-requires-clause-behind
 last_below-found-requires-clause-behind g c =
     let last = rw c.in-Some.is at c.loop-found.invariant.found in
-    rw c.remove.ensures (none_from (g.T.ItemTest.meaning c.args.test.now) (is_in_block c.args.block) c.loop-found.self c.in-Some.last.place c.in-Some.last.index last.1 last.2)
+    rw c.remove.ensures (none_from (g.T.ItemTest.meaning c.args.test.now) (is_near c.args.handle) c.loop-found.self c.in-Some.last.place c.in-Some.last.index last.1 last.2)
 
 pub loop-found-smaller : goal.loop-found-smaller
 loop-found-smaller g c =
@@ -31,11 +31,11 @@ loop-found-preserved g c =
 pub returns-clause-found : goal.returns-clause-found
 returns-clause-found g c =
     c.is_some-any.ensures
-    ∙ finds_any (g.T.ItemTest.meaning c.args.test.now) (is_in_block c.args.block) c.args.self.now c.find_last_passing-found.result c.requires
-    (rw (c.among-near.ensures.slots, c.among-near.ensures.places) at c.find_last_passing-found.ensures)
+    ∙ finds_any (g.T.ItemTest.meaning c.args.test.now) (is_near c.args.handle) c.args.self.now c.find_last_passing-found.result c.requires
+    (rw (c.near-near.ensures.slots, c.near-near.ensures.places) at c.find_last_passing-found.ensures)
 
 pub returns-clause-remaining : goal.returns-clause-remaining
 returns-clause-remaining g c =
     none_dropped (g.T.ItemTest.meaning c.args.test.now) _
-    (sym (finds_any (g.T.ItemTest.meaning c.args.test.now) (is_in_block c.args.block) c.loop-found.self c.loop-found.found c.requires c.loop-found.invariant.found) ∙ ap is_some c.in_default.is)
+    (sym (finds_any (g.T.ItemTest.meaning c.args.test.now) (is_near c.args.handle) c.loop-found.self c.loop-found.found c.requires c.loop-found.invariant.found) ∙ ap is_some c.in_default.is)
     ∙ c.loop-found.invariant.kept

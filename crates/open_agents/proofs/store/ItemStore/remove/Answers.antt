@@ -1,19 +1,15 @@
 use Rattle.std.proofs.Common.{◌∙◌, arith}
-use Rattle.open_agents.proofs.Placed.{agents_ascend, blocks_ascend, store_removed, there, vacated_count}
+use Rattle.open_agents.proofs.Placed.{near_ascends, store_removed, there, vacated_count}
 use Rattle.open_agents.proofs.store.ItemStore.remove.Goals as goal
 
 pub remove_ascending_from_both-requires : goal.remove_ascending_from_both-requires
-remove_ascending_from_both-requires g c = blocks_ascend _ _ _ c.self.invariant.0
-
-pub remove_ascending-requires : goal.remove_ascending-requires
-remove_ascending-requires g c = agents_ascend _ _ _ c.self.invariant.0 c.in-Some.item.agent
+remove_ascending_from_both-requires g c = near_ascends _ _ _ c.self.invariant.0
 
 pub invariant_of-self : goal.invariant_of-self
 invariant_of-self g c =
     let read = there _ c.args.place _ (rw (← c.self.view_is) at c.requires) c.index.ensures in
     let one = vacated_count c.self.inside.slots.items c.args.place c.in-Some.item (read ∙ c.in-Some.is) in (
-      store_removed _ c.args.place c.in-Some.item _ _ _ _ c.self.invariant.0 (read ∙ c.in-Some.is) (rw c.second_block-second.ensures at c.remove_ascending_from_both.ensures)
-          c.remove_ascending.ensures,
+      store_removed _ c.args.place c.in-Some.item _ _ _ c.self.invariant.0 (read ∙ c.in-Some.is) (rw c.second_block-second.ensures at c.remove_ascending_from_both.ensures),
       omega (arith, one, c.self.invariant.1),
     )
 

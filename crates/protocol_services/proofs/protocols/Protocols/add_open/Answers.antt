@@ -9,7 +9,7 @@ returns-clause-raised g c = rw (← c.self.view_is) (elim c.match-add_new.branch
     numbers = omega arith;
     stamps = omega arith;
     keys = omega arith;
-    counts = λ n h. opened_counts c.args.handle c.args.guid c.args.agent c.args.controller c.args.attributes c.self.inside.opens n h;
+    counts = λ n h. opened_counts c.args.request.now.handle c.args.request.now.guid c.args.request.now.agent c.args.request.now.controller c.args.request.now.attributes c.self.inside.opens n h;
   }
   | in-Err w ↦ rw w.in-Err.ensures.err record {
     numbers = omega arith;

@@ -4,12 +4,12 @@ use Rattle.protocol_services.proofs.protocols.Protocols.count_open.Goals as goal
 use Rattle.protocol_services.proofs.protocols.Protocols.count_open.Goals.{in-Ok, in-Err}
 
 pub returns-clause-raised : goal.returns-clause-raised
-returns-clause-raised g c = rw (← c.self.view_is) (elim c.match-add.branch [
+returns-clause-raised g c = rw (← c.self.view_is) (elim c.match-add_request.branch [
   | in-Ok w ↦ rw w.in-Ok.ensures.ok record {
     numbers = omega arith;
     stamps = omega arith;
     keys = omega arith;
-    counts = λ n h. opened_counts c.args.handle c.args.guid c.args.agent c.args.controller c.args.attributes c.self.inside.opens n h;
+    counts = λ n h. opened_counts c.args.request.now.handle c.args.request.now.guid c.args.request.now.agent c.args.request.now.controller c.args.request.now.attributes c.self.inside.opens n h;
   }
   | in-Err w ↦ rw w.in-Err.ensures.err record {
     numbers = omega arith;

@@ -1,5 +1,4 @@
 use Rattle.std.proofs.Common.{map, refl}
-use Rattle.protocol_services.proofs.Lives.{of_blocks}
 use Rattle.protocol_services.proofs.Raised.{stays_raised}
 use Rattle.protocol_services.proofs.Freed.{carried_freed, not_refused, reinstalls, served_carries}
 use Rattle.protocol_services.proofs.protocols.Protocols.reinstall.Goals as goal
@@ -14,15 +13,6 @@ pub returns-in-Ok-clause-reinstalls : goal.returns-in-Ok-clause-reinstalls
 returns-in-Ok-clause-reinstalls g c =
     reinstalls (map g.D.Driver.meaning c.args.drivers.now) c.args.self.now c.replace_freed.new.self c.args.handle c.args.guid c.args.old_value c.args.new_value c.in-Ok.events
     (not_refused c.args.self.now _ c.args.handle c.args.guid c.args.old_value c.removal_refusal.result c.self.view_is c.removal_refusal.ensures c.in_default.not-Some) c.in_ok-plan.ensures.0 c.in-Ok.ensures.ok
-
-pub drop-plan-inside-requires-then-not-has_room : goal.drop-plan-inside-requires-then-not-has_room
-drop-plan-inside-requires-then-not-has_room g c = λ κs low. (of_blocks κs.0 g.row.A.lives low.0, low.1)
-
-pub drop-plan-inside-requires-in-Ok-2 : goal.drop-plan-inside-requires-in-Ok-2
-drop-plan-inside-requires-in-Ok-2 g c = λ κs low. (of_blocks κs.0 g.row.A.lives low.0, low.1)
-
-pub drop-plan-inside-requires-3 : goal.drop-plan-inside-requires-3
-drop-plan-inside-requires-3 g c = λ κs low. (of_blocks κs.0 g.row.A.lives low.0, low.1)
 
 pub returns-in-Some-clause-raised : goal.returns-in-Some-clause-raised
 returns-in-Some-clause-raised g c = stays_raised c.args.self.now

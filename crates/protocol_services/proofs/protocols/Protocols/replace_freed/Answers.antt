@@ -1,53 +1,51 @@
-use Rattle.std.proofs.Common.{map, refl, arith, sym, ◌∙◌}
+use Rattle.std.proofs.Common.{refl, ap, ◌∙◌}
 use Rattle.std.proofs.lemmas.Result.{IfOk-from_err}
 use Rattle.guid_handles.proofs.SlidRows.{on_err}
-use Rattle.protocol_services.specs.Lists.{Lists}
-use Rattle.protocol_services.proofs.Freed.{replaced_or_not_raised, replaced_where_idle}
+use Rattle.protocol_services.specs.Saved.{put_back}
+use Rattle.protocol_services.proofs.Raised.{stays_raised}
 use Rattle.protocol_services.proofs.protocols.Protocols.replace_freed.Goals as goal
 
-pub returns-else-branch-clause-ok : goal.returns-else-branch-clause-ok
-returns-else-branch-clause-ok g c =
-    let l : Lists = record { handles = c.self.inside.handles; opens = c.self.inside.opens; registrations = c.self.inside.registrations } in
-    rw (← c.self.view_is)
-    (replaced_where_idle (map g.D.Driver.meaning c.args.drivers.now) l c.replace_in_place.new.self c.args.plan.now c.args.handle c.args.guid c.args.value c.replace_in_place.result (rw (← c.self.view_is) at c.requires.plan)
-    (sym c.in_ok-is_ready_after.ensures ∙ c.if-branch.false) (rw (← c.self.view_is) at c.replace_in_place.ensures.lists) c.replace_in_place.ensures.order (rw (← c.self.view_is) at c.replace_in_place.ensures.events))
+pub returns-in_err-given-clause-ok : goal.returns-in_err-given-clause-ok
+returns-in_err-given-clause-ok g c = IfOk-from_err c.from_residual.result _ c.from_residual.ensures.0
 
-pub returns-else-branch-clause-raised : goal.returns-else-branch-clause-raised
-returns-else-branch-clause-raised g c =
-    replaced_or_not_raised c.args.self.now c.replace_in_place.new.self c.args.handle c.args.guid c.args.value c.replace_in_place.result c.replace_in_place.ensures.lists c.replace_in_place.ensures.err
+pub returns-in_err-given-clause-err : goal.returns-in_err-given-clause-err
+returns-in_err-given-clause-err g c = on_err c.from_residual.result _ refl
 
-pub returns-in_err-is_ready_after-clause-ok : goal.returns-in_err-is_ready_after-clause-ok
-returns-in_err-is_ready_after-clause-ok g c = IfOk-from_err c.from_residual.result _ c.from_residual.ensures.0
+pub returns-in_err-given-clause-raised : goal.returns-in_err-given-clause-raised
+returns-in_err-given-clause-raised g c = stays_raised c.args.self.now
 
-pub returns-in_err-is_ready_after-clause-err : goal.returns-in_err-is_ready_after-clause-err
-returns-in_err-is_ready_after-clause-err g c = on_err c.from_residual.result _ refl
+pub returns-in_err-saved-clause-ok : goal.returns-in_err-saved-clause-ok
+returns-in_err-saved-clause-ok g c = IfOk-from_err c.from_residual-in_err-saved.result _ c.from_residual-in_err-saved.ensures.0
 
-pub replace_and_connect-requires-clause-plan : goal.replace_and_connect-requires-clause-plan
-replace_and_connect-requires-clause-plan g c = c.requires.plan
+pub returns-in_err-saved-clause-err : goal.returns-in_err-saved-clause-err
+returns-in_err-saved-clause-err g c = on_err c.from_residual-in_err-saved.result _ refl
 
-pub replace_and_connect-requires-clause-there : goal.replace_and_connect-requires-clause-there
-replace_and_connect-requires-clause-there g c = c.requires.there
+pub returns-in_err-saved-clause-raised : goal.returns-in_err-saved-clause-raised
+returns-in_err-saved-clause-raised g c = stays_raised c.args.self.now
 
-pub replace_and_connect-requires-clause-room : goal.replace_and_connect-requires-clause-room
-replace_and_connect-requires-clause-room g c = c.requires.room
+pub saved_before-requires : goal.saved_before-requires
+saved_before-requires g c = c.requires.plan
 
-pub replace_in_place-requires-clause-plan : goal.replace_in_place-requires-clause-plan
-replace_in_place-requires-clause-plan g c = c.requires.plan
+pub free_and_connect-requires-clause-plan : goal.free_and_connect-requires-clause-plan
+free_and_connect-requires-clause-plan g c = c.requires.plan
 
-pub replace_in_place-requires-clause-there : goal.replace_in_place-requires-clause-there
-replace_in_place-requires-clause-there g c = c.requires.there
+pub free_and_connect-requires-clause-there : goal.free_and_connect-requires-clause-there
+free_and_connect-requires-clause-there g c = c.requires.there
 
-pub replace_in_place-requires-clause-stamps : goal.replace_in_place-requires-clause-stamps
-replace_in_place-requires-clause-stamps g c = omega (arith, c.requires.room.stamps)
+pub free_and_connect-requires-clause-room : goal.free_and_connect-requires-clause-room
+free_and_connect-requires-clause-room g c = c.requires.room
 
-pub returns-then-branch-clause-ok : goal.returns-then-branch-clause-ok
-returns-then-branch-clause-ok g c = c.replace_and_connect.ensures.ok
+pub free_and_connect-requires-clause-given : goal.free_and_connect-requires-clause-given
+free_and_connect-requires-clause-given g c = rw (← c.self.view_is) c.in_ok-given.ensures.events
 
-pub returns-then-branch-clause-err : goal.returns-then-branch-clause-err
-returns-then-branch-clause-err g c = c.replace_and_connect.ensures.err
+pub returns-in-Ok-clause-ok : goal.returns-in-Ok-clause-ok
+returns-in-Ok-clause-ok g c = c.in-Ok.ensures.ok
 
-pub returns-then-branch-clause-raised : goal.returns-then-branch-clause-raised
-returns-then-branch-clause-raised g c = c.replace_and_connect.ensures.raised
+pub returns-in-Ok-clause-raised : goal.returns-in-Ok-clause-raised
+returns-in-Ok-clause-raised g c = c.in-Ok.ensures.raised
 
-pub returns-else-branch-clause-err : goal.returns-else-branch-clause-err
-returns-else-branch-clause-err g c = c.replace_in_place.ensures.err
+pub returns-in-Err-clause-err : goal.returns-in-Err-clause-err
+returns-in-Err-clause-err g c = c.put_back.ensures ∙ ap (put_back c.in_ok-saved.saved) c.in-Err.ensures.err ∙ c.in_ok-saved.ensures
+
+pub returns-in-Err-clause-raised : goal.returns-in-Err-clause-raised
+returns-in-Err-clause-raised g c = let same = c.put_back.ensures ∙ ap (put_back c.in_ok-saved.saved) c.in-Err.ensures.err ∙ c.in_ok-saved.ensures in rw same (stays_raised c.args.self.now)

@@ -1,6 +1,0 @@
-use Rattle.std.proofs.Common.{◌==◌}
-use Rattle.open_agents.proofs.Asked.{controller_near, second_part}
-use Rattle.open_agents.proofs.opens.Opens.drop_pair_near.Goals as goal
-
-pub drop_passing-requires : goal.drop_passing-requires
-drop_passing-requires g c = λ o h. controller_near c.args.controller o c.requires (second_part (o.agent == c.args.agent) (o.controller == c.args.controller) h)
