@@ -4,8 +4,8 @@ ghost use Rattle.guid_handles.specs.declared.records.Pair.{Pair};
 ghost use Rattle.driver_connect.specs.Stopping as spec;
 
 use crate::made::made_by;
+use crate::protocols::Lists;
 use guid_handles::{Handles, Pair};
-use open_agents::Opens;
 use std::alloc::{AllocError, Allocator};
 
 /// Whether a pair is among some.
@@ -49,60 +49,6 @@ pub(crate) fn is_made_by<A: Allocator + Copy>(
     }
 }
 
-/// The pairs that manage a handle that some pairs made, in the order of their items.
-fn managers_of_made<A: Allocator + Copy>(
-    alloc: A,
-    handles: &Handles<A>,
-    opens: &Opens<A>,
-    pairs: &[Pair],
-) -> Result<Vec<Pair, A>, AllocError>
-    ensures { IfOk result (λ v. v.items ≡ spec.managers_of_made handles.now opens.now pairs.now) }
-{
-    let made = made_by(alloc, handles, pairs)?;
-    opens.managers_of_any(made.as_slice())
-}
-
-/// Adds the managers of the handles that the pairs of a set from a place on made.
-fn add_managers<A: Allocator + Copy>(
-    alloc: A,
-    set: &mut Vec<Pair, A>,
-    handles: &Handles<A>,
-    opens: &Opens<A>,
-    from: usize,
-) -> Result<(), AllocError>
-    requires { from ≤ length set.old.items }
-    ensures { OnOk result
-        (set.new.items ≡ spec.with_pairs set.old.items
-        (spec.managers_of_made handles.now opens.now (drop from set.old.items))) }
-{
-    let managers = managers_of_made(alloc, handles, opens, &set.as_slice()[from..])?;
-    add_pairs(set, managers.as_slice())
-}
-
-/// Makes a number of rounds, or as many as add something. Each asks only the pairs that the one before
-/// it added: the managers of what older pairs made are there.
-fn add_rounds<A: Allocator + Copy>(
-    alloc: A,
-    set: &mut Vec<Pair, A>,
-    handles: &Handles<A>,
-    opens: &Opens<A>,
-    count: usize,
-) -> Result<(), AllocError>
-    ensures { OnOk result
-        (set.new.items ≡ spec.rounds count handles.now opens.now set.old.items) }
-{
-    let mut asked = 0;
-    for k in 0..count {
-        let before = set.len();
-        add_managers(alloc, set, handles, opens, asked)?;
-        if set.len() == before {
-            return Ok(());
-        }
-        asked = before;
-    }
-    Ok(())
-}
-
 /// The set of some pairs.
 pub(crate) fn set_of_each<A: Allocator>(
     alloc: A,
@@ -128,18 +74,53 @@ pub(crate) fn set_of<A: Allocator>(
     set_of_each(alloc, pairs.as_slice())
 }
 
-/// The stop set of the pairs of a set.
-pub(crate) fn stop_set<A: Allocator + Copy>(
-    alloc: A,
-    handles: &Handles<A>,
-    opens: &Opens<A>,
-    mut set: Vec<Pair, A>,
-) -> Result<Vec<Pair, A>, AllocError>
-    ensures { IfOk result (λ whole. (pairs : List Pair) → set.items ≡ spec.with_pairs [] pairs
-        → whole.items ≡ spec.stop_set handles.now opens.now pairs) }
-{
-    // There are at most this many items, and further rounds add nothing.
-    let most = handles.all().len() + opens.slots().len();
-    add_rounds(alloc, &mut set, handles, opens, most)?;
-    Ok(set)
+impl<'a, A: Allocator + Copy> Lists<'a, A> {
+    /// The pairs that manage a handle that some pairs made, in the order of their items.
+    fn managers_of_made(&self, pairs: &[Pair]) -> Result<Vec<Pair, A>, AllocError>
+        ensures { IfOk result (λ v. v.items
+            ≡ spec.managers_of_made self.now.handles.now self.now.opens.now pairs.now) }
+    {
+        let made = made_by(self.alloc, self.handles, pairs)?;
+        self.opens.managers_of_any(made.as_slice())
+    }
+
+    /// Adds the managers of the handles that the pairs of a set from a place on made.
+    fn add_managers(&self, set: &mut Vec<Pair, A>, from: usize) -> Result<(), AllocError>
+        requires { from ≤ length set.old.items }
+        ensures { OnOk result (set.new.items ≡ spec.with_pairs set.old.items
+            (spec.managers_of_made self.now.handles.now self.now.opens.now
+            (drop from set.old.items))) }
+    {
+        let managers = self.managers_of_made(&set.as_slice()[from..])?;
+        add_pairs(set, managers.as_slice())
+    }
+
+    /// Makes a number of rounds, or as many as add something. Each asks only the pairs that the one
+    /// before it added: the managers of what older pairs made are there.
+    fn add_rounds(&self, set: &mut Vec<Pair, A>, count: usize) -> Result<(), AllocError>
+        ensures { OnOk result (set.new.items
+            ≡ spec.rounds count self.now.handles.now self.now.opens.now set.old.items) }
+    {
+        let mut asked = 0;
+        for k in 0..count {
+            let before = set.len();
+            self.add_managers(set, asked)?;
+            if set.len() == before {
+                return Ok(());
+            }
+            asked = before;
+        }
+        Ok(())
+    }
+
+    /// The stop set of the pairs of a set.
+    pub(crate) fn stop_set(&self, mut set: Vec<Pair, A>) -> Result<Vec<Pair, A>, AllocError>
+        ensures { IfOk result (λ whole. (pairs : List Pair) → set.items ≡ spec.with_pairs [] pairs
+            → whole.items ≡ spec.stop_set self.now.handles.now self.now.opens.now pairs) }
+    {
+        // There are at most this many items, and further rounds add nothing.
+        let most = self.handles.all().len() + self.opens.slots().len();
+        self.add_rounds(&mut set, most)?;
+        Ok(set)
+    }
 }

@@ -1,4 +1,4 @@
-//! The protocols on a handle, as drivers are shown them.
+//! The lists as they are looked at, and the protocols on a handle, as drivers are shown them.
 ghost use Rattle.std.specs.Prelude.{◌≡◌, IfOk};
 ghost use Rattle.driver_connect.specs.Drivers as spec;
 
@@ -18,20 +18,26 @@ fn protocol_view<A: Allocator + Copy>(i: &Interface, opens: &Opens<A>) -> Protoc
     }
 }
 
-/// The protocols on a handle, in order of installation.
-pub(crate) fn protocols_on<A: Allocator + Copy>(
-    alloc: A,
-    handles: &Handles<A>,
-    opens: &Opens<A>,
-    handle: u64,
-) -> Result<Vec<ProtocolView, A>, AllocError>
-    ensures { IfOk result (λ v. v.items ≡ spec.protocols_on handles.now opens.now handle) }
-{
-    let mut found = Vec::new(alloc);
-    for at in 0..handles.interface_count(handle) {
-        if let Some(interface) = handles.nth_interface(handle, at) {
-            found.push(protocol_view(&interface, opens))?;
+/// The handles and the open items, and where what is found on them is allocated.
+#[derive(Drop)]
+pub(crate) struct Lists<'a, A: Allocator> {
+    pub(crate) alloc: A,
+    pub(crate) handles: &'a Handles<A>,
+    pub(crate) opens: &'a Opens<A>,
+}
+
+impl<'a, A: Allocator + Copy> Lists<'a, A> {
+    /// The protocols on a handle, in order of installation.
+    pub(crate) fn protocols_on(&self, handle: u64) -> Result<Vec<ProtocolView, A>, AllocError>
+        ensures { IfOk result (λ v. v.items
+            ≡ spec.protocols_on self.now.handles.now self.now.opens.now handle) }
+    {
+        let mut found = Vec::new(self.alloc);
+        for at in 0..self.handles.interface_count(handle) {
+            if let Some(interface) = self.handles.nth_interface(handle, at) {
+                found.push(protocol_view(&interface, self.opens))?;
+            }
         }
+        Ok(found)
     }
-    Ok(found)
 }

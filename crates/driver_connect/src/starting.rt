@@ -10,7 +10,7 @@ use crate::agents::{Agent, plan_at, supports_at};
 use crate::candidates::agents_for;
 use crate::driver::Driver;
 use crate::progress::{can_start, make_children, open_for_driver, signal_children};
-use crate::protocols::protocols_on;
+use crate::protocols::Lists;
 use crate::view::{ProtocolView, StartPlan, View};
 use guid_handles::{Handles, Pair};
 use open_agents::Opens;
@@ -83,7 +83,12 @@ impl<A: Allocator + Copy> Connecting<A> {
     fn protocols_on(&self, alloc: A, handle: u64) -> Result<Vec<ProtocolView, A>, AllocError>
         ensures { IfOk result (λ v. v.items ≡ protocols_at self.now handle) }
     {
-        protocols_on(alloc, &self.handles, &self.opens, handle)
+        let lists = Lists {
+            alloc,
+            handles: &self.handles,
+            opens: &self.opens,
+        };
+        lists.protocols_on(handle)
     }
 
     /// Carries out a plan that can be.

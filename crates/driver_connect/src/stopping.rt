@@ -9,8 +9,8 @@ ghost use Rattle.driver_connect.specs.Stopping as spec;
 use crate::agents::{driver_binding, driver_of, may_stop_at};
 use crate::driver::Driver;
 use crate::made::made_by;
-use crate::pairs::{has_pair, is_made_by, set_of, set_of_each, stop_set};
-use crate::protocols::protocols_on;
+use crate::pairs::{has_pair, is_made_by, set_of, set_of_each};
+use crate::protocols::Lists;
 use crate::view::View;
 use guid_handles::{Handles, Pair};
 use open_agents::{
@@ -19,50 +19,6 @@ use open_agents::{
 use page_ranges::Status;
 use std::alloc::{AllocError, Allocator, Global};
 use std::marker::Model;
-
-/// Whether the driver of a pair lets itself be stopped.
-fn may_stop<D: Driver, A: Allocator + Copy>(
-    alloc: A,
-    drivers: &[D],
-    handles: &Handles<A>,
-    opens: &Opens<A>,
-    pair: Pair,
-) -> Result<bool, AllocError>
-    ensures { IfOk result
-        (λ b. b ≡ spec.may_stop (map D.meaning drivers.now) handles.now opens.now pair) }
-{
-    let Pair { controller, agent } = pair;
-    let Some(place) = driver_of(drivers, handles, agent) else {
-        return Ok(false);
-    };
-    let protocols = protocols_on(alloc, handles, opens, controller)?;
-    let view = View {
-        agent,
-        controller,
-        protocols: protocols.as_slice(),
-    };
-    Ok(may_stop_at(drivers, place, &view))
-}
-
-/// Whether the drivers of all pairs let themselves be stopped.
-fn may_all_stop<D: Driver, A: Allocator + Copy>(
-    alloc: A,
-    drivers: &[D],
-    handles: &Handles<A>,
-    opens: &Opens<A>,
-    pairs: &[Pair],
-) -> Result<bool, AllocError>
-    ensures { IfOk result
-        (λ b. b
-        ≡ list_all (spec.may_stop (map D.meaning drivers.now) handles.now opens.now) pairs.now) }
-{
-    for pair in pairs {
-        if !may_stop(alloc, drivers, handles, opens, *pair)? {
-            return Ok(false);
-        }
-    }
-    Ok(true)
-}
 
 /// Whether an item on a handle that goes is no obstacle to a stop.
 fn is_no_obstacle<A: Allocator + Copy>(handles: &Handles<A>, set: &[Pair], o: &OpenRecord) -> bool
@@ -134,30 +90,59 @@ fn spares_opener<A: Allocator + Copy>(
     }
 }
 
-/// Whether a stop set can be stopped.
-fn can_be_stopped<D: Driver, A: Allocator + Copy>(
-    alloc: A,
-    drivers: &[D],
-    handles: &Handles<A>,
-    opens: &Opens<A>,
-    set: &[Pair],
-    handle: u64,
-    opener: Option<Pair>,
-) -> Result<bool, AllocError>
-    ensures { IfOk result
-        (λ b. b
-        ≡ spec.can_be_stopped
-        (map D.meaning drivers.now) handles.now opens.now set.now handle opener) }
-{
-    if !may_all_stop(alloc, drivers, handles, opens, set)? {
-        return Ok(false);
+impl<'a, A: Allocator + Copy> Lists<'a, A> {
+    /// Whether the driver of a pair lets itself be stopped.
+    fn may_stop<D: Driver>(&self, drivers: &[D], pair: Pair) -> Result<bool, AllocError>
+        ensures { IfOk result (λ b. b ≡ spec.may_stop (map D.meaning drivers.now)
+            self.now.handles.now self.now.opens.now pair) }
+    {
+        let Pair { controller, agent } = pair;
+        let Some(place) = driver_of(drivers, self.handles, agent) else {
+            return Ok(false);
+        };
+        let protocols = self.protocols_on(controller)?;
+        let view = View {
+            agent,
+            controller,
+            protocols: protocols.as_slice(),
+        };
+        Ok(may_stop_at(drivers, place, &view))
     }
-    let made = made_by(alloc, handles, set)?;
-    Ok(
-        is_unobstructed(handles, opens, set, made.as_slice())
-            && !is_made_by(handles, set, handle)
-            && spares_opener(handles, set, opener),
-    )
+
+    /// Whether the drivers of all pairs let themselves be stopped.
+    fn may_all_stop<D: Driver>(&self, drivers: &[D], pairs: &[Pair]) -> Result<bool, AllocError>
+        ensures { IfOk result (λ b. b ≡ list_all (spec.may_stop (map D.meaning drivers.now)
+            self.now.handles.now self.now.opens.now) pairs.now) }
+    {
+        for pair in pairs {
+            if !self.may_stop(drivers, *pair)? {
+                return Ok(false);
+            }
+        }
+        Ok(true)
+    }
+
+    /// Whether a stop set can be stopped.
+    fn can_be_stopped<D: Driver>(
+        &self,
+        drivers: &[D],
+        set: &[Pair],
+        handle: u64,
+        opener: Option<Pair>,
+    ) -> Result<bool, AllocError>
+        ensures { IfOk result (λ b. b ≡ spec.can_be_stopped (map D.meaning drivers.now)
+            self.now.handles.now self.now.opens.now set.now handle opener) }
+    {
+        if !self.may_all_stop(drivers, set)? {
+            return Ok(false);
+        }
+        let made = made_by(self.alloc, self.handles, set)?;
+        Ok(
+            is_unobstructed(self.handles, self.opens, set, made.as_slice())
+                && !is_made_by(self.handles, set, handle)
+                && spares_opener(self.handles, set, opener),
+        )
+    }
 }
 
 /// Removes handles with their interfaces. Of ascending handles the last goes first, so that few are
@@ -224,8 +209,12 @@ impl<A: Allocator + Copy> StopPlan<A> {
     ) -> Result<StopPlan<A>, AllocError>
         ensures { IfOk result (λ plan. plan ≡ spec.planned_stop handles.now opens.now pairs.now) }
     {
-        let set = set_of_each(alloc, pairs)?;
-        StopPlan::of_set(alloc, handles, opens, set)
+        let lists = Lists {
+            alloc,
+            handles,
+            opens,
+        };
+        StopPlan::of_set(&lists, set_of_each(alloc, pairs)?)
     }
 
     /// The same, where a single pair stays in its memory.
@@ -238,30 +227,29 @@ impl<A: Allocator + Copy> StopPlan<A> {
         ensures { IfOk result
             (λ plan. plan ≡ spec.planned_stop handles.now opens.now pairs.items) }
     {
-        let set = set_of(alloc, pairs)?;
-        StopPlan::of_set(alloc, handles, opens, set)
+        let lists = Lists {
+            alloc,
+            handles,
+            opens,
+        };
+        StopPlan::of_set(&lists, set_of(alloc, pairs)?)
     }
 
     /// What the stop of the pairs of a set removes. Where they made no handle, it stops no other pairs.
-    fn of_set(
-        alloc: A,
-        handles: &Handles<A>,
-        opens: &Opens<A>,
-        set: Vec<Pair, A>,
-    ) -> Result<StopPlan<A>, AllocError>
+    fn of_set(lists: &Lists<A>, set: Vec<Pair, A>) -> Result<StopPlan<A>, AllocError>
         ensures { IfOk result
             (λ plan. (pairs : List Pair) → set.items ≡ spec.with_pairs [] pairs
-            → plan ≡ spec.planned_stop handles.now opens.now pairs) }
+            → plan ≡ spec.planned_stop lists.now.handles.now lists.now.opens.now pairs) }
     {
-        let made = made_by(alloc, handles, set.as_slice())?;
+        let made = made_by(lists.alloc, lists.handles, set.as_slice())?;
         if made.is_empty() {
             return Ok(StopPlan {
                 pairs: set,
                 handles: made,
             });
         }
-        let pairs = stop_set(alloc, handles, opens, set)?;
-        let handles = made_by(alloc, handles, pairs.as_slice())?;
+        let pairs = lists.stop_set(set)?;
+        let handles = made_by(lists.alloc, lists.handles, pairs.as_slice())?;
         Ok(StopPlan { pairs, handles })
     }
 
@@ -306,15 +294,12 @@ impl<A: Allocator + Copy> StopPlan<A> {
         if self.pairs.as_slice().is_empty() {
             return Ok(true);
         }
-        can_be_stopped(
+        let lists = Lists {
             alloc,
-            drivers,
             handles,
             opens,
-            self.pairs.as_slice(),
-            handle,
-            opener,
-        )
+        };
+        lists.can_be_stopped(drivers, self.pairs.as_slice(), handle, opener)
     }
 
     /// Removes the handles with their interfaces, the items that name them, and those of the pairs. This takes no

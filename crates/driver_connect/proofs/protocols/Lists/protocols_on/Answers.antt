@@ -1,7 +1,7 @@
 use Rattle.std.proofs.Common.{add-one, ◌∙◌, sym, append_assoc}
 use Rattle.driver_connect.proofs.Slots.{slot_next, no_slot}
-use Rattle.driver_connect.proofs.protocols.protocols_on.Goals as goal
-use Rattle.driver_connect.proofs.protocols.protocols_on.Goals.{in-Some+in_ok-push, in_default}
+use Rattle.driver_connect.proofs.protocols.Lists.protocols_on.Goals as goal
+use Rattle.driver_connect.proofs.protocols.Lists.protocols_on.Goals.{in-Some+in_ok-push, in_default}
 
 pub loop-at-preserved : goal.loop-at-preserved
 loop-at-preserved g c =
