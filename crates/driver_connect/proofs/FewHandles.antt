@@ -6,12 +6,11 @@ use Rattle.std.proofs.lemmas.List.{length-append}
 use Rattle.guid_handles.specs.declared.records.Pair.{Pair}
 use Rattle.guid_handles.specs.HandleTables.{HandleTable}
 use Rattle.guid_handles.specs.HandleChanges.{max_handles}
-use Rattle.open_agents.specs.declared.items.OpenRecord.{OpenRecord}
 use Rattle.driver_connect.specs.declared.agents.Agent.{Agent}
 use Rattle.driver_connect.specs.Drivers.{HasShortPlans, IsShortPlan, Meaning, Plan, ViewValue, plan_at, protocols_on}
 use Rattle.driver_connect.specs.Room.{Grows}
 use Rattle.driver_connect.specs.Starting.{Progress, Site, after_turn, is_carried_out, is_supported, plan_for, view_at, with_child, with_children}
-use Rattle.driver_connect.specs.Connecting.{connected, first_progress}
+use Rattle.driver_connect.specs.Connecting.{connected}
 use Rattle.driver_connect.proofs.ByTurns.{by_connect}
 use Rattle.driver_connect.proofs.Passes.{grows_further, grows_same, sound_plan}
 
@@ -88,13 +87,13 @@ stamps_given k c named p ds = omega (arith, (connect_grows k c named p ds).stamp
 
 -- ---- what they take
 
-module _ (t : HandleTable) (opens : List OpenRecord) (p : Progress) (k : ℕ) (c : Site) (named : List ℕ) (whole : p ≡ connected k c named (first_progress t opens)) (g : Grows t p.handles) where
-  few : length p.handles.handles ≤ length t.handles + max_handles
-  few = rw whole (few_more k c named (first_progress t opens))
+module _ (p q : Progress) (k : ℕ) (c : Site) (named : List ℕ) (whole : q ≡ connected k c named p) (g : Grows p.handles q.handles) where
+  few : length q.handles.handles ≤ length p.handles.handles + max_handles
+  few = rw whole (few_more k c named p)
 
   -- each takes a number and at most four stamps
-  pub numbers_rise : p.handles.last_number ≤ t.last_number + 4096
+  pub numbers_rise : q.handles.last_number ≤ p.handles.last_number + 4096
   numbers_rise = omega (arith, g.numbers, few)
 
-  pub stamps_rise : p.handles.last_stamp ≤ t.last_stamp + 16384
+  pub stamps_rise : q.handles.last_stamp ≤ p.handles.last_stamp + 16384
   stamps_rise = omega (arith, g.stamps, few)

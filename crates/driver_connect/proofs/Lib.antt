@@ -20,6 +20,7 @@ pub mod NearChildren
 pub mod NewPairs
 pub mod Left
 pub mod Idle
+pub mod EventsFirst
 pub mod Makers
 pub mod Counts
 pub mod Samples

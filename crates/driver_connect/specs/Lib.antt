@@ -1,6 +1,7 @@
 pub mod Drivers
 pub mod Stopping
 pub mod Room
+pub mod Sites
 pub mod Starting
 pub mod Connecting
 pub mod Laws

@@ -4,7 +4,9 @@ use Rattle.std.specs.declared.vec.Vec.{Vec}
 use Rattle.protocol_notify.specs.declared.notify.Registration.{Registration}
 use Rattle.driver_connect.specs.declared.connecting.Pending.{Pending}
 use Rattle.driver_connect.specs.Drivers.{Meaning}
-use Rattle.driver_connect.specs.Starting.{Progress, site, site_of}
+use Rattle.driver_connect.specs.declared.starting.Starter.{Starter}
+use Rattle.driver_connect.specs.Sites.{site_at}
+use Rattle.driver_connect.specs.Starting.{Progress, site}
 use Rattle.driver_connect.specs.Connecting.{connected}
 
 -- some handles, each with the same number of levels below it, the first one last
@@ -20,12 +22,12 @@ all_connected ds rs (x ∷ xs) p =
 
 -- A handle has its starts, and what is then still to be connected makes the same as if it had been
 -- connected with all below it before the others.
-abbrev pub ConnectsOne : {D A : Type 0} → (D → Meaning) → List D → List Registration → Pending
-    → List ℕ → Vec Pending A → Progress → Vec Pending A → Progress → Type 0
-ConnectsOne meaning drivers rs next named pending p new_pending new =
-    all_connected (map meaning drivers) rs new_pending.items new ≡
-    all_connected (map meaning drivers) rs pending.items
-    (connected next.levels (site_of meaning drivers rs next.handle) named p)
+abbrev pub ConnectsOne : {D A : Type 0} → (D → Meaning) → Starter D A → Pending → List ℕ
+    → Vec Pending A → Progress → Vec Pending A → Progress → Type 0
+ConnectsOne meaning s next named pending p new_pending new =
+    all_connected (map meaning s.drivers.now) s.notify.now new_pending.items new ≡
+    all_connected (map meaning s.drivers.now) s.notify.now pending.items
+    (connected next.levels (site_at meaning s next.handle) named p)
 
 -- what is still to be connected grows by no more than the handles
 abbrev pub GrowsWith : {A : Type 0} → Vec Pending A → Progress → Vec Pending A → Progress → Type 0

@@ -3,14 +3,15 @@ ghost use Rattle.std.specs.Prelude.{◌≡◌, ◌+◌, ◌<◌, ◌≤◌, ◌^
 ghost use Rattle.driver_connect.specs.Connecting as spec;
 ghost use Rattle.driver_connect.specs.Connecting.{ConnectsAll, ConnectsBy};
 ghost use Rattle.driver_connect.specs.Pending.{ConnectsOne, GrowsWith, first_last};
-ghost use Rattle.guid_handles.specs.HandleChanges.{max_in_table};
+ghost use Rattle.guid_handles.specs.HandleChanges.{IsHandleTable, max_in_table};
 ghost use Rattle.driver_connect.specs.GoingOn.{GoesOn};
 ghost use Rattle.driver_connect.specs.Room.{HasRoom, Grows};
-ghost use Rattle.driver_connect.specs.Starting.{site_of, starts_on, is_any_carried_out as any};
+ghost use Rattle.driver_connect.specs.Sites.{begun, site_at};
+ghost use Rattle.driver_connect.specs.Starting.{starts_on, is_any_carried_out as any};
 
 use crate::driver::Driver;
 use crate::numbers::count_up_to;
-use crate::starting::{Connecting, is_any_carried_out, run_passes};
+use crate::starting::{Connecting, Starter, is_any_carried_out};
 use guid_handles::Handles;
 use open_agents::Opens;
 use page_ranges::Status;
@@ -58,89 +59,109 @@ fn note_pending<A: Allocator + Copy>(
     Ok(())
 }
 
-/// Starts drivers on a handle, and notes that the handles which this makes are still to be connected,
-/// if there are levels below it. It returns whether a start on the handle was carried out.
-fn connect_one<D: Driver, A: Allocator + Copy>(
-    alloc: A,
-    connecting: &mut Connecting<A>,
-    drivers: &[D],
-    notify: &Notify<A>,
-    next: Pending,
-    named: &[u64],
-    pending: &mut Vec<Pending, A>,
-) -> Result<bool, AllocError>
-    requires { HasRoom connecting.old.handles }
-    ensures carried_out { IfOk result
-        (λ b. b
-        ≡ any
-        (starts_on
-        (site_of D.meaning drivers.now notify.now next.handle) named.now
-        connecting.old).starts) }
-    ensures progress { OnOk result
-        (ConnectsOne D.meaning drivers.now notify.now next named.now
-        pending.old connecting.old pending.new connecting.new) }
-    ensures fewer { OnOk result
-        (GrowsWith pending.old connecting.old pending.new connecting.new) }
-    ensures limit { OnOk result (length connecting.new.handles.handles ≤ max_in_table) }
-    ensures grows { OnOk result (Grows connecting.old.handles connecting.new.handles) }
-    ensures goes_on { GoesOn connecting.old connecting.new }
-{
-    // The contract of this look-up says that the handles are in order.
-    let _before = connecting.handles.all();
-    let last = connecting.handles.last_number();
-    let starts = run_passes(alloc, connecting, drivers, notify, next.handle, named)?;
-    if next.levels > 0 {
-        let made = made_after(alloc, &connecting.handles, last)?;
-        note_pending(pending, made, next.levels - 1)?;
+impl<'a, D: Driver, A: Allocator + Copy> Starter<'a, D, A> {
+    /// Starts drivers on a handle, and notes that the handles which this makes are still to be
+    /// connected, if there are levels below it. It returns whether a start on the handle was carried
+    /// out.
+    fn connect_one(
+        &self,
+        connecting: &mut Connecting<A>,
+        next: Pending,
+        named: &[u64],
+        pending: &mut Vec<Pending, A>,
+    ) -> Result<bool, AllocError>
+        requires { HasRoom connecting.old.handles }
+        ensures carried_out { IfOk result (λ b. b
+            ≡ any (starts_on (site_at D.meaning self.now next.handle) named.now
+            connecting.old).starts) }
+        ensures progress { OnOk result (ConnectsOne D.meaning self.now next named.now
+            pending.old connecting.old pending.new connecting.new) }
+        ensures fewer { OnOk result
+            (GrowsWith pending.old connecting.old pending.new connecting.new) }
+        ensures limit { OnOk result (length connecting.new.handles.handles ≤ max_in_table) }
+        ensures grows { OnOk result (Grows connecting.old.handles connecting.new.handles) }
+        ensures goes_on { GoesOn connecting.old connecting.new }
+    {
+        // The contract of this look-up says that the handles are in order.
+        let _before = connecting.handles.all();
+        let last = connecting.handles.last_number();
+        let starts = self.run_passes(connecting, next.handle, named)?;
+        if next.levels > 0 {
+            let made = made_after(self.alloc, &connecting.handles, last)?;
+            note_pending(pending, made, next.levels - 1)?;
+        }
+        let _after = connecting.handles.all();
+        Ok(is_any_carried_out(starts.as_slice()))
     }
-    let _after = connecting.handles.all();
-    Ok(is_any_carried_out(starts.as_slice()))
-}
 
-/// Connects a controller, and a number of levels of the handles that are made below it. It returns
-/// whether a start on the controller was carried out. A list of what is still to be connected keeps
-/// the stack as small as for one level.
-fn connect_levels<D: Driver, A: Allocator + Copy>(
-    alloc: A,
-    connecting: &mut Connecting<A>,
-    drivers: &[D],
-    notify: &Notify<A>,
-    controller: u64,
-    named: &[u64],
-    levels: u8,
-) -> Result<bool, AllocError>
-    requires { HasRoom connecting.old.handles }
-    ensures carried_out { IfOk result
-        (λ b. b
-        ≡ any
-        (starts_on
-        (site_of D.meaning drivers.now notify.now controller) named.now
-        connecting.old).starts) }
-    ensures progress { OnOk result
-        (connecting.new
-        ≡ spec.connected levels
-        (site_of D.meaning drivers.now notify.now controller) named.now connecting.old) }
-    ensures grows { OnOk result (Grows connecting.old.handles connecting.new.handles) }
-    ensures goes_on { GoesOn connecting.old connecting.new }
-{
-    let mut pending = Vec::new(alloc);
-    let first = Pending {
-        handle: controller,
-        levels,
-    };
-    let is_carried_out = connect_one(
-        alloc,
-        connecting,
-        drivers,
-        notify,
-        first,
-        named,
-        &mut pending,
-    )?;
-    while let Some(next) = pending.pop() {
-        connect_one(alloc, connecting, drivers, notify, next, &[], &mut pending)?;
+    /// Connects a handle, and a number of levels of the handles that are made below it. It returns
+    /// whether a start on the handle was carried out. A list of what is still to be connected keeps
+    /// the stack as small as for one level.
+    fn connect_levels(
+        &self,
+        connecting: &mut Connecting<A>,
+        first: Pending,
+        named: &[u64],
+    ) -> Result<bool, AllocError>
+        requires { HasRoom connecting.old.handles }
+        ensures carried_out { IfOk result (λ b. b
+            ≡ any (starts_on (site_at D.meaning self.now first.handle) named.now
+            connecting.old).starts) }
+        ensures progress { OnOk result (connecting.new
+            ≡ spec.connected first.levels (site_at D.meaning self.now first.handle) named.now
+            connecting.old) }
+        ensures grows { OnOk result (Grows connecting.old.handles connecting.new.handles) }
+        ensures goes_on { GoesOn connecting.old connecting.new }
+    {
+        let mut pending = Vec::new(self.alloc);
+        let is_carried_out = self.connect_one(connecting, first, named, &mut pending)?;
+        while let Some(next) = pending.pop() {
+            self.connect_one(connecting, next, &[], &mut pending)?;
+        }
+        Ok(is_carried_out)
     }
-    Ok(is_carried_out)
+
+    /// Connects a handle, and a number of levels of the handles that are made below it. It returns
+    /// whether a start on the handle was carried out, and the events given, then those of the
+    /// connect. On an `Err` nothing changes: what was done is taken back.
+    fn connect_in_place(
+        &self,
+        handles: &mut Handles<A>,
+        opens: &mut Opens<A>,
+        first: Pending,
+        named: &[u64],
+        given: Vec<u64, A>,
+    ) -> Result<(bool, Vec<u64, A>), AllocError>
+        requires numbers { handles.old.last_number < 2 ^ 61 }
+        requires stamps { handles.old.last_stamp < 2 ^ 61 }
+        ensures carried_out { IfOk result (λ r. r.0
+            ≡ any (starts_on (site_at D.meaning self.now first.handle) named.now
+            (begun handles.old opens.old given)).starts) }
+        ensures progress { IfOk result (λ r. begun handles.new opens.new r.1
+            ≡ spec.connected first.levels (site_at D.meaning self.now first.handle) named.now
+            (begun handles.old opens.old given)) }
+        ensures err { OnErr result ((handles.new ≡ handles.old) × (opens.new ≡ opens.old)) }
+        ensures numbers { handles.new.last_number ≤ handles.old.last_number + 4096 }
+        ensures stamps { handles.new.last_stamp ≤ handles.old.last_stamp + 16384 }
+        ensures proper { IsHandleTable handles.old }
+    {
+        // The contract of this look-up says that the handles are in order.
+        let _numbers = handles.all();
+        let number = handles.last_number();
+        let stamp = handles.last_stamp();
+        let items = opens.len();
+        let mut connecting = Connecting::take(self.alloc, handles, opens, given);
+        let connected = self.connect_levels(&mut connecting, first, named);
+        let events = connecting.put_in_place(handles, opens);
+        match connected {
+            Ok(is_carried_out) => Ok((is_carried_out, events)),
+            Err(error) => {
+                handles.take_back_to(number, stamp);
+                opens.truncate(items);
+                Err(error)
+            }
+        }
+    }
 }
 
 /// Whether a call of ConnectController names a handle that is not live, or too many drivers.
@@ -152,54 +173,6 @@ pub(crate) fn is_refused<A: Allocator + Copy>(
     ensures { result ≡ spec.connect_refused handles.now handle named.now }
 {
     !handles.is_live(handle) || named.len() > MAX_NAMED
-}
-
-/// Connects a handle, a number of levels of handles below it too. On an `Err` nothing changes: what was
-/// done is taken back.
-fn connect_in_place<D: Driver, A: Allocator + Copy>(
-    alloc: A,
-    handles: &mut Handles<A>,
-    opens: &mut Opens<A>,
-    notify: &Notify<A>,
-    drivers: &[D],
-    handle: u64,
-    named: &[u64],
-    recursive: bool,
-) -> Result<Vec<u64, A>, Status>
-    requires valid { spec.connect_refused handles.old handle named.now ≡ false }
-    requires numbers { handles.old.last_number < 2 ^ 61 }
-    requires stamps { handles.old.last_stamp < 2 ^ 61 }
-    ensures connects { ConnectsBy D.meaning drivers.now notify.now handle named.now recursive
-        handles.old opens.old result handles.new opens.new }
-    ensures numbers { handles.new.last_number ≤ handles.old.last_number + 4096 }
-    ensures stamps { handles.new.last_stamp ≤ handles.old.last_stamp + 16384 }
-{
-    // The contract of this look-up says that the handles are in order.
-    let _numbers = handles.all();
-    let number = handles.last_number();
-    let stamp = handles.last_stamp();
-    let items = opens.len();
-    let mut connecting = Connecting::take(alloc, handles, opens);
-    let levels = if recursive { LEVELS_BELOW } else { 0 };
-    let connected = connect_levels(
-        alloc,
-        &mut connecting,
-        drivers,
-        notify,
-        handle,
-        named,
-        levels,
-    );
-    let events = connecting.put_in_place(handles, opens);
-    match connected {
-        Ok(true) => Ok(events),
-        Ok(false) => Err(Status::NotFound),
-        Err(_) => {
-            handles.take_back_to(number, stamp);
-            opens.truncate(items);
-            Err(Status::OutOfResources)
-        }
-    }
 }
 
 /// Starts drivers on a handle, those first that are named, and where `recursive` is set on the
@@ -225,42 +198,18 @@ pub fn connect<D: Driver, A: Allocator + Copy>(
     if is_refused(handles, handle, named) {
         return Err(Status::InvalidParameter);
     }
-    connect_in_place(
-        alloc, handles, opens, notify, drivers, handle, named, recursive,
-    )
-}
-
-/// Connects a controller and all that is made below it, with no driver named, and appends the events to
-/// others.
-fn connect_all<D: Driver, A: Allocator + Copy>(
-    alloc: A,
-    connecting: &mut Connecting<A>,
-    drivers: &[D],
-    notify: &Notify<A>,
-    controller: u64,
-    events: &mut Vec<u64, A>,
-) -> Result<(), AllocError>
-    requires { HasRoom connecting.old.handles }
-    ensures progress { OnOk result
-        (connecting.new
-        ≡ spec.connected_below
-        (site_of D.meaning drivers.now notify.now controller) connecting.old) }
-    ensures events { OnOk result
-        (events.new.items ≡ events.old.items ++ connecting.new.events) }
-    ensures grows { OnOk result (Grows connecting.old.handles connecting.new.handles) }
-    ensures goes_on { GoesOn connecting.old connecting.new }
-{
-    connect_levels(
+    let starter = Starter {
         alloc,
-        connecting,
         drivers,
         notify,
-        controller,
-        &[],
-        LEVELS_BELOW,
-    )?;
-    events.extend_from_slice(connecting.events.as_slice())?;
-    Ok(())
+    };
+    let levels = if recursive { LEVELS_BELOW } else { 0 };
+    let first = Pending { handle, levels };
+    match starter.connect_in_place(handles, opens, first, named, Vec::new(alloc)) {
+        Ok((true, events)) => Ok(events),
+        Ok((false, _)) => Err(Status::NotFound),
+        Err(_) => Err(Status::OutOfResources),
+    }
 }
 
 /// Connects a handle and all that is made below it, with no driver named. It returns the events given,
@@ -282,21 +231,15 @@ pub(crate) fn connect_below<D: Driver, A: Allocator + Copy>(
     ensures numbers { handles.new.last_number ≤ handles.old.last_number + 4096 }
     ensures stamps { handles.new.last_stamp ≤ handles.old.last_stamp + 16384 }
 {
-    // The contract of this look-up says that the handles are in order.
-    let _numbers = handles.all();
-    let last_number = handles.last_number();
-    let last_stamp = handles.last_stamp();
-    let count = opens.len();
-    let mut events = given;
-    let mut connecting = Connecting::take(alloc, handles, opens);
-    let connected = connect_all(alloc, &mut connecting, drivers, notify, handle, &mut events);
-    let _events = connecting.put_in_place(handles, opens);
-    match connected {
-        Ok(()) => Ok(events),
-        Err(error) => {
-            handles.take_back_to(last_number, last_stamp);
-            opens.truncate(count);
-            Err(error)
-        }
-    }
+    let starter = Starter {
+        alloc,
+        drivers,
+        notify,
+    };
+    let first = Pending {
+        handle,
+        levels: LEVELS_BELOW,
+    };
+    let (_, events) = starter.connect_in_place(handles, opens, first, &[], given)?;
+    Ok(events)
 }

@@ -1,10 +1,10 @@
 //! Starting drivers on one handle.
-ghost use Rattle.std.specs.Prelude.{◌≡◌, ◌≤◌, ◌++◌, true, false, take, IfOk, OnOk};
-ghost use Rattle.driver_connect.specs.Connecting.{first_progress};
+ghost use Rattle.std.specs.Prelude.{◌≡◌, ◌++◌, true, false, IfOk, OnOk};
 ghost use Rattle.driver_connect.specs.GoingOn.{GoesOn};
 ghost use Rattle.driver_connect.specs.Room.{HasRoom, Grows};
+ghost use Rattle.driver_connect.specs.Sites.{begun, site_at};
 ghost use Rattle.driver_connect.specs.Starting as spec;
-ghost use Rattle.driver_connect.specs.Starting.{all_passes, pass, protocols_at, site_of};
+ghost use Rattle.driver_connect.specs.Starting.{all_passes, pass, protocols_at};
 
 use crate::agents::{Agent, plan_at, supports_at};
 use crate::candidates::agents_for;
@@ -51,15 +51,20 @@ pub(crate) struct Pass<A: Allocator> {
 }
 
 impl<A: Allocator + Copy> Connecting<A> {
-    /// Moves the handles and the open items here, to be changed. Until they are put in place there are none.
-    /// This does not allocate.
-    pub(crate) fn take(alloc: A, handles: &mut Handles<A>, opens: &mut Opens<A>) -> Connecting<A>
-        ensures { result ≡ first_progress handles.old opens.old }
+    /// Moves the handles and the open items here, to be changed, with the events given. Until they are
+    /// put in place there are none. This does not allocate.
+    pub(crate) fn take(
+        alloc: A,
+        handles: &mut Handles<A>,
+        opens: &mut Opens<A>,
+        events: Vec<u64, A>,
+    ) -> Connecting<A>
+        ensures { result ≡ begun handles.old opens.old events }
     {
         Connecting {
             handles: mem::replace(handles, Handles::new(alloc)),
             opens: mem::replace(opens, Opens::new(alloc)),
-            events: Vec::new(alloc),
+            events,
         }
     }
 
@@ -91,6 +96,23 @@ impl<A: Allocator + Copy> Connecting<A> {
         lists.protocols_on(handle)
     }
 
+    /// The protocols on a controller after a turn, where those before it are given.
+    fn refreshed(
+        &self,
+        alloc: A,
+        controller: u64,
+        protocols: Vec<ProtocolView, A>,
+        turn: Option<bool>,
+    ) -> Result<Vec<ProtocolView, A>, AllocError>
+        requires { spec.is_change turn ≡ false → protocols.items ≡ protocols_at self.now controller }
+        ensures { IfOk result (λ v. v.items ≡ protocols_at self.now controller) }
+    {
+        match turn {
+            Some(true) => self.protocols_on(alloc, controller),
+            _ => Ok(protocols),
+        }
+    }
+
     /// Carries out a plan that can be.
     fn carry_out(
         &mut self,
@@ -119,64 +141,6 @@ impl<A: Allocator + Copy> Connecting<A> {
     }
 }
 
-/// Starts an agent's driver if it is supported on the controller, whose protocols are given, and
-/// returns whether the start was carried out. It returns none where the driver is not supported.
-fn take_turn<D: Driver, A: Allocator + Copy>(
-    connecting: &mut Connecting<A>,
-    drivers: &[D],
-    notify: &Notify<A>,
-    controller: u64,
-    agent: &Agent,
-    protocols: &[ProtocolView],
-) -> Result<Option<bool>, AllocError>
-    requires room { HasRoom connecting.old.handles }
-    requires protocols { protocols.now ≡ protocols_at connecting.old controller }
-    ensures turn { IfOk result
-        (λ t. t
-        ≡ spec.turn
-        (site_of D.meaning drivers.now notify.now controller) connecting.old agent.now) }
-    ensures progress { OnOk result
-        (connecting.new
-        ≡ spec.after_turn (site_of D.meaning drivers.now notify.now controller) connecting.old
-        agent.now) }
-    ensures stays { IfOk result (λ t. spec.is_change t ≡ false → connecting.new ≡ connecting.old) }
-    ensures grows { OnOk result (Grows connecting.old.handles connecting.new.handles) }
-    ensures goes_on { GoesOn connecting.old connecting.new }
-{
-    let view = View {
-        agent: agent.handle,
-        controller,
-        protocols,
-    };
-    if !supports_at(drivers, agent.driver, &view) {
-        return Ok(None);
-    }
-    let plan = plan_at(drivers, agent.driver, &view);
-    if !can_start(&connecting.handles, protocols, &plan) {
-        return Ok(Some(false));
-    }
-    connecting.carry_out(notify, controller, agent.handle, &plan)?;
-    Ok(Some(true))
-}
-
-/// The protocols on a controller after a turn, where those before it are given.
-fn refreshed<A: Allocator + Copy>(
-    alloc: A,
-    connecting: &Connecting<A>,
-    controller: u64,
-    protocols: Vec<ProtocolView, A>,
-    turn: Option<bool>,
-) -> Result<Vec<ProtocolView, A>, AllocError>
-    requires { spec.is_change turn ≡ false
-        → protocols.items ≡ protocols_at connecting.now controller }
-    ensures { IfOk result (λ v. v.items ≡ protocols_at connecting.now controller) }
-{
-    match turn {
-        Some(true) => connecting.protocols_on(alloc, controller),
-        _ => Ok(protocols),
-    }
-}
-
 impl<A: Allocator + Copy> Pass<A> {
     /// Notes what came of an agent's turn.
     fn note(&mut self, agent: &Agent, turn: Option<bool>) -> Result<(), AllocError>
@@ -196,131 +160,141 @@ impl<A: Allocator + Copy> Pass<A> {
     }
 }
 
-/// Starts each of some drivers in turn that is supported on a controller.
-fn run_pass<D: Driver, A: Allocator + Copy>(
-    alloc: A,
-    connecting: &mut Connecting<A>,
-    drivers: &[D],
-    notify: &Notify<A>,
-    controller: u64,
-    agents: &[Agent],
-) -> Result<Pass<A>, AllocError>
-    requires { HasRoom connecting.old.handles }
-    ensures starts { IfOk result
-        (λ p. p.starts.items
-        ≡ (pass
-        (site_of D.meaning drivers.now notify.now controller) agents.now
-        connecting.old).starts) }
-    ensures left { IfOk result
-        (λ p. p.left.items
-        ≡ (pass
-        (site_of D.meaning drivers.now notify.now controller) agents.now
-        connecting.old).left) }
-    ensures progress { OnOk result
-        (connecting.new
-        ≡ (pass
-        (site_of D.meaning drivers.now notify.now controller) agents.now
-        connecting.old).progress) }
-    ensures grows { OnOk result (Grows connecting.old.handles connecting.new.handles) }
-    ensures goes_on { GoesOn connecting.old connecting.new }
-{
-    let mut pass = Pass {
-        starts: Vec::new(alloc),
-        left: Vec::new(alloc),
-    };
-    let mut protocols = connecting.protocols_on(alloc, controller)?;
-    for agent in agents {
-        let turn = take_turn(
-            connecting,
-            drivers,
-            notify,
-            controller,
-            agent,
-            protocols.as_slice(),
-        )?;
-        pass.note(agent, turn)?;
-        protocols = refreshed(alloc, connecting, controller, protocols, turn)?;
-    }
-    Ok(pass)
+/// What drivers are started by: those that there are, the registrations for the events that this
+/// signals, and where memory is allocated.
+#[derive(Drop)]
+pub(crate) struct Starter<'a, D, A: Allocator> {
+    pub(crate) alloc: A,
+    pub(crate) drivers: &'a [D],
+    pub(crate) notify: &'a Notify<A>,
 }
 
-/// Starts drivers on a controller, in passes over those that are left, up to a pass that starts
-/// none. Drivers that are named come first. LLVM keeps this a call of its own, since plans take much of the
-/// stack in each level of handles; Rattle's own compiler does not read the attribute.
-#[inline(never)]
-pub(crate) fn run_passes<D: Driver, A: Allocator + Copy>(
-    alloc: A,
-    connecting: &mut Connecting<A>,
-    drivers: &[D],
-    notify: &Notify<A>,
-    controller: u64,
-    named: &[u64],
-) -> Result<Vec<Start, A>, AllocError>
-    requires { HasRoom connecting.old.handles }
-    ensures starts { IfOk result
-        (λ v. v.items
-        ≡ (spec.starts_on
-        (site_of D.meaning drivers.now notify.now controller) named.now
-        connecting.old).starts) }
-    ensures progress { OnOk result
-        (connecting.new
-        ≡ (spec.starts_on
-        (site_of D.meaning drivers.now notify.now controller) named.now
-        connecting.old).progress) }
-    ensures grows { OnOk result (Grows connecting.old.handles connecting.new.handles) }
-    ensures goes_on { GoesOn connecting.old connecting.new }
-{
-    let agents = agents_for(alloc, drivers, &connecting.handles, named)?;
-    run_passes_over(alloc, connecting, drivers, notify, controller, agents)
-}
-
-/// Starts drivers on a controller, in passes over those that are left, up to a pass that starts
-/// none.
-fn run_passes_over<D: Driver, A: Allocator + Copy>(
-    alloc: A,
-    connecting: &mut Connecting<A>,
-    drivers: &[D],
-    notify: &Notify<A>,
-    controller: u64,
-    agents: Vec<Agent, A>,
-) -> Result<Vec<Start, A>, AllocError>
-    requires { HasRoom connecting.old.handles }
-    ensures starts { IfOk result
-        (λ v. v.items
-        ≡ (all_passes
-        (site_of D.meaning drivers.now notify.now controller) agents.items
-        connecting.old).starts) }
-    ensures progress { OnOk result
-        (connecting.new
-        ≡ (all_passes
-        (site_of D.meaning drivers.now notify.now controller) agents.items
-        connecting.old).progress) }
-    ensures grows { OnOk result (Grows connecting.old.handles connecting.new.handles) }
-    ensures goes_on { GoesOn connecting.old connecting.new }
-{
-    let count = agents.len();
-    let mut left = agents;
-    let mut starts = Vec::new(alloc);
-    for k in 0..count {
-        let pass = run_pass(
-            alloc,
-            connecting,
-            drivers,
-            notify,
+impl<'a, D: Driver, A: Allocator + Copy> Starter<'a, D, A> {
+    /// Starts an agent's driver if it is supported on the controller, whose protocols are given, and
+    /// returns whether the start was carried out. It returns none where the driver is not supported.
+    fn take_turn(
+        &self,
+        connecting: &mut Connecting<A>,
+        controller: u64,
+        agent: &Agent,
+        protocols: &[ProtocolView],
+    ) -> Result<Option<bool>, AllocError>
+        requires room { HasRoom connecting.old.handles }
+        requires protocols { protocols.now ≡ protocols_at connecting.old controller }
+        ensures turn { IfOk result (λ t. t
+            ≡ spec.turn (site_at D.meaning self.now controller) connecting.old agent.now) }
+        ensures progress { OnOk result (connecting.new
+            ≡ spec.after_turn (site_at D.meaning self.now controller) connecting.old agent.now) }
+        ensures stays { IfOk result
+            (λ t. spec.is_change t ≡ false → connecting.new ≡ connecting.old) }
+        ensures grows { OnOk result (Grows connecting.old.handles connecting.new.handles) }
+        ensures goes_on { GoesOn connecting.old connecting.new }
+    {
+        let view = View {
+            agent: agent.handle,
             controller,
-            left.as_slice(),
-        )?;
-        starts.extend_from_slice(pass.starts.as_slice())?;
-        if pass.starts.is_empty() {
-            return Ok(starts);
+            protocols,
+        };
+        if !supports_at(self.drivers, agent.driver, &view) {
+            return Ok(None);
         }
-        let Pass {
-            starts: _,
-            left: rest,
-        } = pass;
-        left = rest;
+        let plan = plan_at(self.drivers, agent.driver, &view);
+        if !can_start(&connecting.handles, protocols, &plan) {
+            return Ok(Some(false));
+        }
+        connecting.carry_out(self.notify, controller, agent.handle, &plan)?;
+        Ok(Some(true))
     }
-    Ok(starts)
+
+    /// Starts each of some drivers in turn that is supported on a controller.
+    fn run_pass(
+        &self,
+        connecting: &mut Connecting<A>,
+        controller: u64,
+        agents: &[Agent],
+    ) -> Result<Pass<A>, AllocError>
+        requires { HasRoom connecting.old.handles }
+        ensures starts { IfOk result (λ p. p.starts.items
+            ≡ (pass (site_at D.meaning self.now controller) agents.now connecting.old).starts) }
+        ensures left { IfOk result (λ p. p.left.items
+            ≡ (pass (site_at D.meaning self.now controller) agents.now connecting.old).left) }
+        ensures progress { OnOk result (connecting.new
+            ≡ (pass (site_at D.meaning self.now controller) agents.now connecting.old).progress) }
+        ensures grows { OnOk result (Grows connecting.old.handles connecting.new.handles) }
+        ensures goes_on { GoesOn connecting.old connecting.new }
+    {
+        let mut pass = Pass {
+            starts: Vec::new(self.alloc),
+            left: Vec::new(self.alloc),
+        };
+        let mut protocols = connecting.protocols_on(self.alloc, controller)?;
+        for agent in agents {
+            let turn = self.take_turn(connecting, controller, agent, protocols.as_slice())?;
+            pass.note(agent, turn)?;
+            protocols = connecting.refreshed(self.alloc, controller, protocols, turn)?;
+        }
+        Ok(pass)
+    }
+
+    /// Starts drivers on a controller, in passes over those that are left, up to a pass that starts
+    /// none. Drivers that are named come first. LLVM keeps this a call of its own, since plans take
+    /// much of the stack in each level of handles; Rattle's own compiler does not read the attribute.
+    #[inline(never)]
+    pub(crate) fn run_passes(
+        &self,
+        connecting: &mut Connecting<A>,
+        controller: u64,
+        named: &[u64],
+    ) -> Result<Vec<Start, A>, AllocError>
+        requires { HasRoom connecting.old.handles }
+        ensures starts { IfOk result (λ v. v.items
+            ≡ (spec.starts_on (site_at D.meaning self.now controller) named.now
+            connecting.old).starts) }
+        ensures progress { OnOk result (connecting.new
+            ≡ (spec.starts_on (site_at D.meaning self.now controller) named.now
+            connecting.old).progress) }
+        ensures grows { OnOk result (Grows connecting.old.handles connecting.new.handles) }
+        ensures goes_on { GoesOn connecting.old connecting.new }
+    {
+        let agents = agents_for(self.alloc, self.drivers, &connecting.handles, named)?;
+        self.run_passes_over(connecting, controller, agents)
+    }
+
+    /// Starts drivers on a controller, in passes over those that are left, up to a pass that starts
+    /// none.
+    fn run_passes_over(
+        &self,
+        connecting: &mut Connecting<A>,
+        controller: u64,
+        agents: Vec<Agent, A>,
+    ) -> Result<Vec<Start, A>, AllocError>
+        requires { HasRoom connecting.old.handles }
+        ensures starts { IfOk result (λ v. v.items
+            ≡ (all_passes (site_at D.meaning self.now controller) agents.items
+            connecting.old).starts) }
+        ensures progress { OnOk result (connecting.new
+            ≡ (all_passes (site_at D.meaning self.now controller) agents.items
+            connecting.old).progress) }
+        ensures grows { OnOk result (Grows connecting.old.handles connecting.new.handles) }
+        ensures goes_on { GoesOn connecting.old connecting.new }
+    {
+        let count = agents.len();
+        let mut left = agents;
+        let mut starts = Vec::new(self.alloc);
+        for k in 0..count {
+            let pass = self.run_pass(connecting, controller, left.as_slice())?;
+            starts.extend_from_slice(pass.starts.as_slice())?;
+            if pass.starts.is_empty() {
+                return Ok(starts);
+            }
+            let Pass {
+                starts: _,
+                left: rest,
+            } = pass;
+            left = rest;
+        }
+        Ok(starts)
+    }
 }
 
 /// Whether a start was carried out.

@@ -5,13 +5,13 @@ use Rattle.driver_connect.specs.GoingOn.{GoesOn}
 use Rattle.driver_connect.specs.Pending.{all_connected}
 use Rattle.driver_connect.specs.Room.{HasRoom, Grows}
 use Rattle.driver_connect.specs.Starting.{site}
-use Rattle.driver_connect.proofs.connecting.connect_levels.Given as goal
+use Rattle.driver_connect.proofs.starting.Starter.connect_levels.Given as goal
 
 abbrev pub invariant-loop-next : goal.invariant-loop-next
 invariant-loop-next g l = record {
   progress :
-      all_connected (map g.D.Driver.meaning l.drivers) l.notify l.pending.items l.connecting
-      ≡ connected l.levels (site (map g.D.Driver.meaning l.drivers) l.notify l.controller) l.named l.fn.connecting;
+      all_connected (map g.D.Driver.meaning l.self.drivers.now) l.self.notify.now l.pending.items l.connecting
+      ≡ connected l.fn.first.levels (site (map g.D.Driver.meaning l.self.drivers.now) l.self.notify.now l.fn.first.handle) l.named l.fn.connecting;
   limit : length l.connecting.handles.handles ≤ max_in_table;
   grows : Grows l.fn.connecting.handles l.connecting.handles;
   goes_on : GoesOn l.fn.connecting l.connecting;

@@ -2,7 +2,7 @@ use Rattle.std.proofs.Common.{◌≡◌, true, false, sym, ap, ◌∙◌}
 use Rattle.driver_connect.specs.Starting.{Progress, is_carried_out, is_supported, site_of}
 use Rattle.driver_connect.proofs.GoingOn.{goes_nowhere}
 use Rattle.driver_connect.proofs.Passes.{turn_of}
-use Rattle.driver_connect.proofs.starting.take_turn.Goals as goal
+use Rattle.driver_connect.proofs.starting.Starter.take_turn.Goals as goal
 
 pub returns-then-not-supports_at-clause-goes_on : goal.returns-then-not-supports_at-clause-goes_on
 returns-then-not-supports_at-clause-goes_on g c = goes_nowhere c.args.connecting.now
@@ -12,7 +12,7 @@ returns-then-not-can_start-clause-goes_on g c = goes_nowhere c.args.connecting.n
 
 pub returns-then-not-can_start-clause-turn : goal.returns-then-not-can_start-clause-turn
 returns-then-not-can_start-clause-turn g c =
-    let site = site_of g.D.Driver.meaning c.args.drivers.now c.args.notify.now c.args.controller in
+    let site = site_of g.D.Driver.meaning c.args.self.now.drivers.now c.args.self.now.notify.now c.args.controller in
     let table = ap (λ (p : Progress). p.handles) c.connecting.view_is in
     let s : is_supported site c.args.connecting.now c.args.agent.now ≡ true = rw c.requires.protocols at (sym c.supports_at.ensures.supports ∙ c.if-not-supports_at.false) in
     let k : is_carried_out site c.args.connecting.now c.args.agent.now ≡ false = rw (c.plan_at-plan.ensures, c.requires.protocols, table) at (sym c.can_start.ensures ∙ c.if-not-can_start.true) in
@@ -20,7 +20,7 @@ returns-then-not-can_start-clause-turn g c =
 
 pub returns-then-not-can_start-clause-progress : goal.returns-then-not-can_start-clause-progress
 returns-then-not-can_start-clause-progress g c =
-    let site = site_of g.D.Driver.meaning c.args.drivers.now c.args.notify.now c.args.controller in
+    let site = site_of g.D.Driver.meaning c.args.self.now.drivers.now c.args.self.now.notify.now c.args.controller in
     let table = ap (λ (p : Progress). p.handles) c.connecting.view_is in
     let s : is_supported site c.args.connecting.now c.args.agent.now ≡ true = rw c.requires.protocols at (sym c.supports_at.ensures.supports ∙ c.if-not-supports_at.false) in
     let k : is_carried_out site c.args.connecting.now c.args.agent.now ≡ false = rw (c.plan_at-plan.ensures, c.requires.protocols, table) at (sym c.can_start.ensures ∙ c.if-not-can_start.true) in
@@ -33,7 +33,7 @@ carry_out-requires-clause-can g c =
 
 pub returns-clause-turn : goal.returns-clause-turn
 returns-clause-turn g c =
-    let site = site_of g.D.Driver.meaning c.args.drivers.now c.args.notify.now c.args.controller in
+    let site = site_of g.D.Driver.meaning c.args.self.now.drivers.now c.args.self.now.notify.now c.args.controller in
     let table = ap (λ (p : Progress). p.handles) c.connecting.view_is in
     let s : is_supported site c.args.connecting.now c.args.agent.now ≡ true = rw c.requires.protocols at (sym c.supports_at.ensures.supports ∙ c.if-not-supports_at.false) in
     let k : is_carried_out site c.args.connecting.now c.args.agent.now ≡ true = rw (c.plan_at-plan.ensures, c.requires.protocols, table) at (sym c.can_start.ensures ∙ c.if-not-can_start.false) in

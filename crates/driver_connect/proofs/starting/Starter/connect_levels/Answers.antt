@@ -3,7 +3,7 @@ use Rattle.std.specs.Prelude.{option_to_list}
 use Rattle.driver_connect.specs.Pending.{all_connected}
 use Rattle.driver_connect.proofs.GoingOn.{goes_further}
 use Rattle.driver_connect.proofs.Pending.{last_connected}
-use Rattle.driver_connect.proofs.connecting.connect_levels.Goals as goal
+use Rattle.driver_connect.proofs.starting.Starter.connect_levels.Goals as goal
 
 pub loop-next-init : goal.loop-next-init
 loop-next-init g c = record {
@@ -16,13 +16,13 @@ loop-next-init g c = record {
 
 pub loop-next-preserved : goal.loop-next-preserved
 loop-next-preserved g c =
-    let drivers = map g.D.Driver.meaning c.args.drivers.now in
+    let drivers = map g.D.Driver.meaning c.args.self.now.drivers.now in
     let rest = c.pop.new.self.items in
     let popped : c.loop-next.pending.items ≡ rest ++ (c.in-Some.next ∷ []) = c.pop.ensures.items ∙ ap (λ o. rest ++ option_to_list o) c.in-Some.is in
     record {
       progress =
-          c.in_ok-connect_one.ensures.progress ∙ sym (last_connected drivers c.args.notify.now rest c.in-Some.next c.loop-next.connecting)
-          ∙ ap (λ xs. all_connected drivers c.args.notify.now xs c.loop-next.connecting) (sym popped) ∙ c.loop-next.invariant.progress;
+          c.in_ok-connect_one.ensures.progress ∙ sym (last_connected drivers c.args.self.now.notify.now rest c.in-Some.next c.loop-next.connecting)
+          ∙ ap (λ xs. all_connected drivers c.args.self.now.notify.now xs c.loop-next.connecting) (sym popped) ∙ c.loop-next.invariant.progress;
       limit = c.in_ok-connect_one.ensures.limit;
       grows = search rules;
       goes_on = goes_further _ _ _ c.loop-next.invariant.goes_on c.connect_one-in-Some.ensures.goes_on;

@@ -7,7 +7,7 @@ use Rattle.driver_connect.specs.Starting.{Passed}
 use Rattle.driver_connect.proofs.Lives.{of_two_lists}
 use Rattle.driver_connect.proofs.GoingOn.{goes_nowhere, goes_further}
 use Rattle.driver_connect.proofs.Passes.{grows_same}
-use Rattle.driver_connect.proofs.starting.run_pass.Goals as goal
+use Rattle.driver_connect.proofs.starting.Starter.run_pass.Goals as goal
 
 pub returns-in_err-protocols-clause-goes_on : goal.returns-in_err-protocols-clause-goes_on
 returns-in_err-protocols-clause-goes_on g c = goes_nowhere c.args.connecting.now

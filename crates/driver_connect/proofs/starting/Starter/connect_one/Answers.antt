@@ -1,20 +1,20 @@
 use Rattle.std.proofs.Common.{◌≡◌, ◌-◌, map, arith}
 use Rattle.driver_connect.specs.Connecting.{made_after}
 use Rattle.driver_connect.proofs.Pending.{few_noted, one_alone, one_and_made}
-use Rattle.driver_connect.proofs.connecting.connect_one.Goals as goal
-use Rattle.driver_connect.proofs.connecting.connect_one.Goals.{then-next-gt0+in_ok-made+in_ok-note_pending, else-next-gt0}
+use Rattle.driver_connect.proofs.starting.Starter.connect_one.Goals as goal
+use Rattle.driver_connect.proofs.starting.Starter.connect_one.Goals.{then-next-gt0+in_ok-made+in_ok-note_pending, else-next-gt0}
 
 pub returns-clause-progress : goal.returns-clause-progress
 returns-clause-progress g c =
-    let drivers = map g.D.Driver.meaning c.args.drivers.now in
+    let drivers = map g.D.Driver.meaning c.args.self.now.drivers.now in
     elim c.if-next-gt0.branch [
       | then-next-gt0+in_ok-made+in_ok-note_pending w ↦
           let last : c.last_number-last.result ≡ c.args.connecting.now.handles.last_number = rw (← c.connecting.view_is) c.last_number-last.ensures in
           let made : w.in_ok-made.made.items ≡ made_after c.last_number-last.result c.run_passes.new.connecting.handles = rw (← c.connecting-2.view_is) w.in_ok-made.ensures in
-          rw w.pending-is (one_and_made drivers c.args.notify.now c.args.pending.now.items c.args.next c.args.named.now c.args.connecting.now c.run_passes.new.connecting
+          rw w.pending-is (one_and_made drivers c.args.self.now.notify.now c.args.pending.now.items c.args.next c.args.named.now c.args.connecting.now c.run_passes.new.connecting
           c.last_number-last.result _ _ w.if-next-gt0.true c.in_ok-starts.ensures.progress last made w.in_ok-note_pending.ensures)
       | else-next-gt0 w ↦
-          rw w.pending-is (one_alone drivers c.args.notify.now c.args.pending.now.items c.args.next c.args.named.now c.args.connecting.now c.run_passes.new.connecting
+          rw w.pending-is (one_alone drivers c.args.self.now.notify.now c.args.pending.now.items c.args.next c.args.named.now c.args.connecting.now c.run_passes.new.connecting
           w.if-next-gt0.false c.in_ok-starts.ensures.progress)
     ]
 

@@ -3,7 +3,7 @@ use Rattle.driver_connect.specs.Starting.{site}
 use Rattle.driver_connect.proofs.GoingOn.{goes_nowhere, goes_further}
 use Rattle.driver_connect.proofs.Passes.{passes_end, passes_more, grows_further, room_stays}
 use Rattle.driver_connect.proofs.Whole.{passes_done}
-use Rattle.driver_connect.proofs.starting.run_passes_over.Goals as goal
+use Rattle.driver_connect.proofs.starting.Starter.run_passes_over.Goals as goal
 
 pub loop-k-init : goal.loop-k-init
 loop-k-init g c = record {
@@ -29,7 +29,7 @@ returns-then-is_empty-clause-starts g c =
     let n : vec_len c.in_ok-pass.pass.starts ≡ length c.in_ok-pass.pass.starts.items = c.in_ok-pass.pass.starts.ok.0 in
     let z : (length c.in_ok-pass.pass.starts.items == 0) ≡ true = rw (← n) (sym c.if-is_empty.ensures) in
     let l : c.loop-k.k < length c.args.agents.items = omega (arith, c.loop-k.invariant.count) in
-    let e = passes_end (site (map g.D.Driver.meaning c.args.drivers.now) c.args.notify.now c.args.controller) c.loop-k.starts.items c.loop-k.left.items (length c.args.agents.items) c.loop-k.k c.loop-k.connecting _ l (rw pstarts at z) c.loop-k.invariant.whole in
+    let e = passes_end (site (map g.D.Driver.meaning c.args.self.now.drivers.now) c.args.self.now.notify.now c.args.controller) c.loop-k.starts.items c.loop-k.left.items (length c.args.agents.items) c.loop-k.k c.loop-k.connecting _ l (rw pstarts at z) c.loop-k.invariant.whole in
     let s : c.extend_from_slice.new.self.items ≡ c.loop-k.starts.items ++ c.in_ok-pass.pass.starts.items = search rules in
     s ∙ rw pstarts e.0
 
@@ -40,7 +40,7 @@ returns-then-is_empty-clause-progress g c =
     let n : vec_len c.in_ok-pass.pass.starts ≡ length c.in_ok-pass.pass.starts.items = c.in_ok-pass.pass.starts.ok.0 in
     let z : (length c.in_ok-pass.pass.starts.items == 0) ≡ true = rw (← n) (sym c.if-is_empty.ensures) in
     let l : c.loop-k.k < length c.args.agents.items = omega (arith, c.loop-k.invariant.count) in
-    let e = passes_end (site (map g.D.Driver.meaning c.args.drivers.now) c.args.notify.now c.args.controller) c.loop-k.starts.items c.loop-k.left.items (length c.args.agents.items) c.loop-k.k c.loop-k.connecting _ l (rw pstarts at z) c.loop-k.invariant.whole in
+    let e = passes_end (site (map g.D.Driver.meaning c.args.self.now.drivers.now) c.args.self.now.notify.now c.args.controller) c.loop-k.starts.items c.loop-k.left.items (length c.args.agents.items) c.loop-k.k c.loop-k.connecting _ l (rw pstarts at z) c.loop-k.invariant.whole in
     pprogress ∙ e.1
 
 pub loop-k-preserved : goal.loop-k-preserved
@@ -51,7 +51,7 @@ loop-k-preserved g c =
     let n : vec_len c.in_ok-pass.pass.starts ≡ length c.in_ok-pass.pass.starts.items = c.in_ok-pass.pass.starts.ok.0 in
     let z : (length c.in_ok-pass.pass.starts.items == 0) ≡ false = rw (← n) (sym c.if-is_empty.ensures) in
     let l : c.loop-k.k < length c.args.agents.items = omega (arith, c.loop-k.invariant.count) in
-    let e = passes_more (site (map g.D.Driver.meaning c.args.drivers.now) c.args.notify.now c.args.controller) c.loop-k.starts.items c.loop-k.left.items (length c.args.agents.items) c.loop-k.k c.loop-k.connecting _ l (rw pstarts at z) c.loop-k.invariant.whole in
+    let e = passes_more (site (map g.D.Driver.meaning c.args.self.now.drivers.now) c.args.self.now.notify.now c.args.controller) c.loop-k.starts.items c.loop-k.left.items (length c.args.agents.items) c.loop-k.k c.loop-k.connecting _ l (rw pstarts at z) c.loop-k.invariant.whole in
     let s : c.extend_from_slice.new.self.items ≡ c.loop-k.starts.items ++ c.in_ok-pass.pass.starts.items = search rules in
     record {
       whole = rw s (rw pstarts (rw pleft (rw pprogress e)));
@@ -64,9 +64,9 @@ loop-k-preserved g c =
 pub returns-clause-starts : goal.returns-clause-starts
 returns-clause-starts g c =
     let l : length c.args.agents.items ≤ c.loop-k.k = omega (arith, c.loop-k.invariant.count) in
-    (passes_done (site (map g.D.Driver.meaning c.args.drivers.now) c.args.notify.now c.args.controller) c.loop-k.starts.items c.loop-k.left.items (length c.args.agents.items) c.loop-k.k c.loop-k.connecting _ l c.loop-k.invariant.whole).0
+    (passes_done (site (map g.D.Driver.meaning c.args.self.now.drivers.now) c.args.self.now.notify.now c.args.controller) c.loop-k.starts.items c.loop-k.left.items (length c.args.agents.items) c.loop-k.k c.loop-k.connecting _ l c.loop-k.invariant.whole).0
 
 pub returns-clause-progress : goal.returns-clause-progress
 returns-clause-progress g c =
     let l : length c.args.agents.items ≤ c.loop-k.k = omega (arith, c.loop-k.invariant.count) in
-    (passes_done (site (map g.D.Driver.meaning c.args.drivers.now) c.args.notify.now c.args.controller) c.loop-k.starts.items c.loop-k.left.items (length c.args.agents.items) c.loop-k.k c.loop-k.connecting _ l c.loop-k.invariant.whole).1
+    (passes_done (site (map g.D.Driver.meaning c.args.self.now.drivers.now) c.args.self.now.notify.now c.args.controller) c.loop-k.starts.items c.loop-k.left.items (length c.args.agents.items) c.loop-k.k c.loop-k.connecting _ l c.loop-k.invariant.whole).1
