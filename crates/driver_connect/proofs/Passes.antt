@@ -1,12 +1,11 @@
 -- A pass over drivers, one turn after the other.
-use Rattle.std.proofs.Common.{◌≡◌, ℕ, suc, ◌+◌, ◌-◌, ◌<◌, ◌≤◌, ◌==◌, ◌&&◌, nat_le, not, Bool, true, false, cond, Some, List, [], ◌∷◌, ◌++◌, map, length, drop, get_or, inl, inr, refl, sym, ap, ◌∙◌, append_assoc, append-nil, arith}
+use Rattle.std.proofs.Common.{◌≡◌, ℕ, suc, ◌+◌, ◌-◌, ◌<◌, ◌≤◌, ◌==◌, ◌&&◌, nat_le, not, Bool, true, false, cond, Some, List, [], ◌∷◌, ◌++◌, map, length, inl, inr, refl, sym, ap, ◌∙◌, append_assoc, append-nil, arith}
 use Rattle.std.specs.List.{list_all, filter, AllByRecursion}
 use Rattle.std.proofs.lemmas.Bool.{and_parts, cases_Bool, leb-true, not-true}
 use Rattle.std.proofs.lemmas.Bool.Decides.{eqb_tells}
 use Rattle.guid_handles.specs.declared.records.Interface.{Interface}
 use Rattle.guid_handles.specs.HandleTables.{HandleTable, same_guid, is_on}
 use Rattle.guid_handles.specs.HandleChanges.{max_handles}
-use Rattle.guid_handles.proofs.SortedLists.{drop_next}
 use Rattle.guid_handles.proofs.GuidOrder.{same_guid-true}
 use Rattle.open_agents.specs.declared.items.OpenRecord.{OpenRecord}
 use Rattle.open_agents.specs.OpenRule.{has_holder}
@@ -15,7 +14,8 @@ use Rattle.driver_connect.specs.declared.starting.Start.{Start}
 use Rattle.driver_connect.specs.declared.view.ProtocolView.{ProtocolView}
 use Rattle.driver_connect.specs.Drivers.{Plan, protocol_view, protocols_on, is_free}
 use Rattle.driver_connect.specs.Room.{HasRoom, Grows}
-use Rattle.driver_connect.specs.Starting.{Site, Progress, Passed, can_start, carried_out, has_twice, is_carried_out, is_child, is_supported, joined, plan_for, turn, after_turn, starts_of, left_of, pass, passes}
+use Rattle.driver_connect.specs.Sites.{passed}
+use Rattle.driver_connect.specs.Starting.{Site, Progress, Passed, can_start, carried_out, has_twice, is_carried_out, is_child, is_supported, joined, plan_for, turn, after_turn, pass, passes}
 
 pub grows_same : (t : HandleTable) → Grows t t
 grows_same t = record { handles = omega arith; numbers = omega arith; stamps = omega arith }
@@ -89,17 +89,9 @@ planned_unheld p n plan h = all_unheld p.handles p.opens n plan.opens (sound_pla
 joined_twice : (s u : List Start) (l m : List Agent) (r : Passed) → joined s l (joined u m r) ≡ joined (s ++ u) (l ++ m) r
 joined_twice s u l m r = rw (append_assoc s u r.starts) (rw (append_assoc l m r.left) refl)
 
--- one turn more
-pub turn_more : (c : Site) (starts : List Start) (left : List Agent) (agents : List Agent) (k : ℕ) (a : Agent) (p : Progress) (whole : Passed) → k < length agents → a ≡ get_or agents k a
-    → joined starts left (pass c (drop k agents) p) ≡ whole
-    → joined (starts ++ starts_of a (turn c p a)) (left ++ left_of a (turn c p a)) (pass c (drop (k + 1) agents) (after_turn c p a)) ≡ whole
-turn_more c starts left agents k a p whole l e h =
-    sym (joined_twice starts (starts_of a (turn c p a)) left (left_of a (turn c p a)) (pass c (drop (k + 1) agents) (after_turn c p a))) ∙ (rw (drop_next agents k a l e) at h)
-
 -- the last turn was taken
-pub turns_end : (c : Site) (starts : List Start) (left : List Agent) (p : Progress) (whole : Passed) → joined starts left (pass c [] p) ≡ whole
-    → (starts ≡ whole.starts) × (left ≡ whole.left) × (p ≡ whole.progress)
-turns_end c starts left p whole h = (sym (append-nil starts) ∙ ap (λ r. r.starts) h, sym (append-nil left) ∙ ap (λ r. r.left) h, ap (λ r. r.progress) h)
+pub turns_end : (c : Site) (starts : List Start) (left : List Agent) (p : Progress) (whole : Passed) → joined starts left (pass c [] p) ≡ whole → passed starts left p ≡ whole
+turns_end c starts left p whole h = ap (λ s. passed s left p) (sym (append-nil starts)) ∙ ap (λ l. passed (starts ++ []) l p) (sym (append-nil left)) ∙ h
 
 -- what comes of a turn
 pub turn_of : (c : Site) (p : Progress) (a : Agent) (can : Bool) → is_supported c p a ≡ true → is_carried_out c p a ≡ can
@@ -109,18 +101,18 @@ turn_of c p a can s k = (rw (s, k) refl, rw (s, k) refl)
 -- ---- passes
 
 -- a pass that starts none is the last
-pub passes_end : (c : Site) (starts : List Start) (agents : List Agent) (n k : ℕ) (p : Progress) (whole : Passed) → k < n → (length (pass c agents p).starts == 0) ≡ true
-    → joined starts [] (passes (n - k) c agents p) ≡ whole → (starts ++ (pass c agents p).starts ≡ whole.starts) × ((pass c agents p).progress ≡ whole.progress)
-passes_end c starts agents n k p whole l z h =
+pub passes_end : (c : Site) (starts : List Start) (agents : List Agent) (n k : ℕ) (p : Progress) (whole made : Passed) → made ≡ pass c agents p → k < n → (length made.starts == 0) ≡ true
+    → joined starts [] (passes (n - k) c agents p) ≡ whole → (starts ++ made.starts ≡ whole.starts) × (made.progress ≡ whole.progress)
+passes_end c starts agents n k p whole made m l z h =
     let e : n - k ≡ suc (n - (k + 1)) = omega arith in
-    let w : joined starts [] (pass c agents p) ≡ whole = rw z at (rw e at h) in
-    (ap (λ r. r.starts) w, ap (λ r. r.progress) w)
+    let w : joined starts [] (pass c agents p) ≡ whole = rw (rw m at z) at (rw e at h) in
+    rw m (ap (λ r. r.starts) w, ap (λ r. r.progress) w)
 
 -- one pass more
-pub passes_more : (c : Site) (starts : List Start) (agents : List Agent) (n k : ℕ) (p : Progress) (whole : Passed) → k < n → (length (pass c agents p).starts == 0) ≡ false
+pub passes_more : (c : Site) (starts : List Start) (agents : List Agent) (n k : ℕ) (p : Progress) (whole made : Passed) → made ≡ pass c agents p → k < n → (length made.starts == 0) ≡ false
     → joined starts [] (passes (n - k) c agents p) ≡ whole
-    → joined (starts ++ (pass c agents p).starts) [] (passes (n - (k + 1)) c (pass c agents p).left (pass c agents p).progress) ≡ whole
-passes_more c starts agents n k p whole l z h =
+    → joined (starts ++ made.starts) [] (passes (n - (k + 1)) c made.left made.progress) ≡ whole
+passes_more c starts agents n k p whole made m l z h =
     let e : n - k ≡ suc (n - (k + 1)) = omega arith in
-    let w : joined starts [] (joined (pass c agents p).starts [] (passes (n - (k + 1)) c (pass c agents p).left (pass c agents p).progress)) ≡ whole = rw z at (rw e at h) in
-    sym (joined_twice starts (pass c agents p).starts [] [] (passes (n - (k + 1)) c (pass c agents p).left (pass c agents p).progress)) ∙ w
+    let w : joined starts [] (joined (pass c agents p).starts [] (passes (n - (k + 1)) c (pass c agents p).left (pass c agents p).progress)) ≡ whole = rw (rw m at z) at (rw e at h) in
+    rw m (sym (joined_twice starts (pass c agents p).starts [] [] (passes (n - (k + 1)) c (pass c agents p).left (pass c agents p).progress)) ∙ w)

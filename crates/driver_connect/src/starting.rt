@@ -2,7 +2,7 @@
 ghost use Rattle.std.specs.Prelude.{◌≡◌, ◌++◌, true, false, IfOk, OnOk};
 ghost use Rattle.driver_connect.specs.GoingOn.{GoesOn};
 ghost use Rattle.driver_connect.specs.Room.{HasRoom, Grows};
-ghost use Rattle.driver_connect.specs.Sites.{begun, site_at};
+ghost use Rattle.driver_connect.specs.Sites.{EndsAs, begun, passed, site_at};
 ghost use Rattle.driver_connect.specs.Starting as spec;
 ghost use Rattle.driver_connect.specs.Starting.{all_passes, pass, protocols_at};
 
@@ -214,12 +214,8 @@ impl<'a, D: Driver, A: Allocator + Copy> Starter<'a, D, A> {
         agents: &[Agent],
     ) -> Result<Pass<A>, AllocError>
         requires { HasRoom connecting.old.handles }
-        ensures starts { IfOk result (λ p. p.starts.items
-            ≡ (pass (site_at D.meaning self.now controller) agents.now connecting.old).starts) }
-        ensures left { IfOk result (λ p. p.left.items
-            ≡ (pass (site_at D.meaning self.now controller) agents.now connecting.old).left) }
-        ensures progress { OnOk result (connecting.new
-            ≡ (pass (site_at D.meaning self.now controller) agents.now connecting.old).progress) }
+        ensures whole { IfOk result (λ p. passed p.starts.items p.left.items connecting.new
+            ≡ pass (site_at D.meaning self.now controller) agents.now connecting.old) }
         ensures grows { OnOk result (Grows connecting.old.handles connecting.new.handles) }
         ensures goes_on { GoesOn connecting.old connecting.new }
     {
@@ -247,12 +243,9 @@ impl<'a, D: Driver, A: Allocator + Copy> Starter<'a, D, A> {
         named: &[u64],
     ) -> Result<Vec<Start, A>, AllocError>
         requires { HasRoom connecting.old.handles }
-        ensures starts { IfOk result (λ v. v.items
-            ≡ (spec.starts_on (site_at D.meaning self.now controller) named.now
-            connecting.old).starts) }
-        ensures progress { OnOk result (connecting.new
-            ≡ (spec.starts_on (site_at D.meaning self.now controller) named.now
-            connecting.old).progress) }
+        ensures ends { IfOk result (λ v. EndsAs
+            (spec.starts_on (site_at D.meaning self.now controller) named.now connecting.old)
+            v.items connecting.new) }
         ensures grows { OnOk result (Grows connecting.old.handles connecting.new.handles) }
         ensures goes_on { GoesOn connecting.old connecting.new }
     {
@@ -269,12 +262,9 @@ impl<'a, D: Driver, A: Allocator + Copy> Starter<'a, D, A> {
         agents: Vec<Agent, A>,
     ) -> Result<Vec<Start, A>, AllocError>
         requires { HasRoom connecting.old.handles }
-        ensures starts { IfOk result (λ v. v.items
-            ≡ (all_passes (site_at D.meaning self.now controller) agents.items
-            connecting.old).starts) }
-        ensures progress { OnOk result (connecting.new
-            ≡ (all_passes (site_at D.meaning self.now controller) agents.items
-            connecting.old).progress) }
+        ensures ends { IfOk result (λ v. EndsAs
+            (all_passes (site_at D.meaning self.now controller) agents.items connecting.old)
+            v.items connecting.new) }
         ensures grows { OnOk result (Grows connecting.old.handles connecting.new.handles) }
         ensures goes_on { GoesOn connecting.old connecting.new }
     {

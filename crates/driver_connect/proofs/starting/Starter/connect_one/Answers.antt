@@ -12,10 +12,10 @@ returns-clause-progress g c =
           let last : c.last_number-last.result ≡ c.args.connecting.now.handles.last_number = rw (← c.connecting.view_is) c.last_number-last.ensures in
           let made : w.in_ok-made.made.items ≡ made_after c.last_number-last.result c.run_passes.new.connecting.handles = rw (← c.connecting-2.view_is) w.in_ok-made.ensures in
           rw w.pending-is (one_and_made drivers c.args.self.now.notify.now c.args.pending.now.items c.args.next c.args.named.now c.args.connecting.now c.run_passes.new.connecting
-          c.last_number-last.result _ _ w.if-next-gt0.true c.in_ok-starts.ensures.progress last made w.in_ok-note_pending.ensures)
+          c.last_number-last.result _ _ w.if-next-gt0.true c.in_ok-starts.ensures.ends.1 last made w.in_ok-note_pending.ensures)
       | else-next-gt0 w ↦
           rw w.pending-is (one_alone drivers c.args.self.now.notify.now c.args.pending.now.items c.args.next c.args.named.now c.args.connecting.now c.run_passes.new.connecting
-          w.if-next-gt0.false c.in_ok-starts.ensures.progress)
+          w.if-next-gt0.false c.in_ok-starts.ensures.ends.1)
     ]
 
 pub returns-clause-fewer : goal.returns-clause-fewer

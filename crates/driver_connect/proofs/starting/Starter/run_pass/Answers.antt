@@ -1,12 +1,12 @@
-use Rattle.std.proofs.Common.{rules, arith, append-nil, ap, sym, ◌∙◌}
+use Rattle.std.proofs.Common.{rules, arith, ◌∙◌}
 use Rattle.std.proofs.lemmas.Grind.{common_steps}
 use Rattle.std.proofs.lemmas.List.{drop_all}
 use Rattle.std.proofs.lemmas.Result.{IfOk-from_err}
 use contract.BorrowLft.{⊑_static}
-use Rattle.driver_connect.specs.Starting.{Passed}
+use Rattle.driver_connect.specs.Sites.{site_at}
 use Rattle.driver_connect.proofs.Lives.{of_two_lists}
 use Rattle.driver_connect.proofs.GoingOn.{goes_nowhere, goes_further}
-use Rattle.driver_connect.proofs.Passes.{grows_same}
+use Rattle.driver_connect.proofs.Passes.{grows_same, turns_end}
 use Rattle.driver_connect.proofs.starting.Starter.run_pass.Goals as goal
 
 pub returns-in_err-protocols-clause-goes_on : goal.returns-in_err-protocols-clause-goes_on
@@ -48,26 +48,14 @@ take_turn-requires-clause-protocols g c = c.as_slice.ensures.value ∙ c.loop-ag
 pub refreshed-requires : goal.refreshed-requires
 refreshed-requires g c = λ e. rw (c.in_ok-turn.ensures.stays e) c.loop-agent.invariant.protocols
 
-pub returns-in_err-protocols-clause-starts : goal.returns-in_err-protocols-clause-starts
-returns-in_err-protocols-clause-starts g c = IfOk-from_err c.from_residual.result _ c.from_residual.ensures.0
-
-pub returns-in_err-protocols-clause-left : goal.returns-in_err-protocols-clause-left
-returns-in_err-protocols-clause-left g c = IfOk-from_err c.from_residual.result _ c.from_residual.ensures.0
-
-pub returns-in_err-protocols-clause-progress : goal.returns-in_err-protocols-clause-progress
-returns-in_err-protocols-clause-progress g c = IfOk-from_err c.from_residual.result _ c.from_residual.ensures.0
+pub returns-in_err-protocols-clause-whole : goal.returns-in_err-protocols-clause-whole
+returns-in_err-protocols-clause-whole g c = IfOk-from_err c.from_residual.result _ c.from_residual.ensures.0
 
 pub returns-in_err-protocols-clause-grows : goal.returns-in_err-protocols-clause-grows
 returns-in_err-protocols-clause-grows g c = IfOk-from_err c.from_residual.result _ c.from_residual.ensures.0
 
-pub returns-in_err-turn-clause-starts : goal.returns-in_err-turn-clause-starts
-returns-in_err-turn-clause-starts g c = IfOk-from_err c.from_residual-in_err-turn.result _ c.from_residual-in_err-turn.ensures.0
-
-pub returns-in_err-turn-clause-left : goal.returns-in_err-turn-clause-left
-returns-in_err-turn-clause-left g c = IfOk-from_err c.from_residual-in_err-turn.result _ c.from_residual-in_err-turn.ensures.0
-
-pub returns-in_err-turn-clause-progress : goal.returns-in_err-turn-clause-progress
-returns-in_err-turn-clause-progress g c = IfOk-from_err c.from_residual-in_err-turn.result _ c.from_residual-in_err-turn.ensures.0
+pub returns-in_err-turn-clause-whole : goal.returns-in_err-turn-clause-whole
+returns-in_err-turn-clause-whole g c = IfOk-from_err c.from_residual-in_err-turn.result _ c.from_residual-in_err-turn.ensures.0
 
 pub returns-in_err-turn-clause-grows : goal.returns-in_err-turn-clause-grows
 returns-in_err-turn-clause-grows g c = IfOk-from_err c.from_residual-in_err-turn.result _ c.from_residual-in_err-turn.ensures.0
@@ -75,14 +63,8 @@ returns-in_err-turn-clause-grows g c = IfOk-from_err c.from_residual-in_err-turn
 pub from_residual-requires-in_err-turn : goal.from_residual-requires-in_err-turn
 from_residual-requires-in_err-turn g c = λ κs low. (of_two_lists κs.0 g.row.A.lives low, (⊑_static κs.1.0, ⊑_static κs.1.1.0))
 
-pub returns-in_err-note-clause-starts : goal.returns-in_err-note-clause-starts
-returns-in_err-note-clause-starts g c = IfOk-from_err c.from_residual-in_err-note.result _ c.from_residual-in_err-note.ensures.0
-
-pub returns-in_err-note-clause-left : goal.returns-in_err-note-clause-left
-returns-in_err-note-clause-left g c = IfOk-from_err c.from_residual-in_err-note.result _ c.from_residual-in_err-note.ensures.0
-
-pub returns-in_err-note-clause-progress : goal.returns-in_err-note-clause-progress
-returns-in_err-note-clause-progress g c = IfOk-from_err c.from_residual-in_err-note.result _ c.from_residual-in_err-note.ensures.0
+pub returns-in_err-note-clause-whole : goal.returns-in_err-note-clause-whole
+returns-in_err-note-clause-whole g c = IfOk-from_err c.from_residual-in_err-note.result _ c.from_residual-in_err-note.ensures.0
 
 pub returns-in_err-note-clause-grows : goal.returns-in_err-note-clause-grows
 returns-in_err-note-clause-grows g c = IfOk-from_err c.from_residual-in_err-note.result _ c.from_residual-in_err-note.ensures.0
@@ -90,14 +72,8 @@ returns-in_err-note-clause-grows g c = IfOk-from_err c.from_residual-in_err-note
 pub from_residual-requires-in_err-note : goal.from_residual-requires-in_err-note
 from_residual-requires-in_err-note g c = λ κs low. (of_two_lists κs.0 g.row.A.lives low, (⊑_static κs.1.0, ⊑_static κs.1.1.0))
 
-pub returns-in_err-protocols-2-clause-starts : goal.returns-in_err-protocols-2-clause-starts
-returns-in_err-protocols-2-clause-starts g c = IfOk-from_err c.from_residual-in_err-protocols-2.result _ c.from_residual-in_err-protocols-2.ensures.0
-
-pub returns-in_err-protocols-2-clause-left : goal.returns-in_err-protocols-2-clause-left
-returns-in_err-protocols-2-clause-left g c = IfOk-from_err c.from_residual-in_err-protocols-2.result _ c.from_residual-in_err-protocols-2.ensures.0
-
-pub returns-in_err-protocols-2-clause-progress : goal.returns-in_err-protocols-2-clause-progress
-returns-in_err-protocols-2-clause-progress g c = IfOk-from_err c.from_residual-in_err-protocols-2.result _ c.from_residual-in_err-protocols-2.ensures.0
+pub returns-in_err-protocols-2-clause-whole : goal.returns-in_err-protocols-2-clause-whole
+returns-in_err-protocols-2-clause-whole g c = IfOk-from_err c.from_residual-in_err-protocols-2.result _ c.from_residual-in_err-protocols-2.ensures.0
 
 pub returns-in_err-protocols-2-clause-grows : goal.returns-in_err-protocols-2-clause-grows
 returns-in_err-protocols-2-clause-grows g c = IfOk-from_err c.from_residual-in_err-protocols-2.result _ c.from_residual-in_err-protocols-2.ensures.0
@@ -105,20 +81,10 @@ returns-in_err-protocols-2-clause-grows g c = IfOk-from_err c.from_residual-in_e
 pub from_residual-requires-in_err-protocols-2 : goal.from_residual-requires-in_err-protocols-2
 from_residual-requires-in_err-protocols-2 g c = λ κs low. (of_two_lists κs.0 g.row.A.lives low, (⊑_static κs.1.0, ⊑_static κs.1.1.0))
 
-pub returns-clause-starts : goal.returns-clause-starts
-returns-clause-starts g c =
+pub returns-clause-whole : goal.returns-clause-whole
+returns-clause-whole g c =
     let whole = rw (drop_all c.loop-agent.agent-index c.args.agents.now c.loop-agent-test.false) at c.loop-agent.invariant.whole in
-    sym (append-nil c.loop-agent.pass.starts.items) ∙ ap (λ (p : Passed). p.starts) whole
-
-pub returns-clause-left : goal.returns-clause-left
-returns-clause-left g c =
-    let whole = rw (drop_all c.loop-agent.agent-index c.args.agents.now c.loop-agent-test.false) at c.loop-agent.invariant.whole in
-    sym (append-nil c.loop-agent.pass.left.items) ∙ ap (λ (p : Passed). p.left) whole
-
-pub returns-clause-progress : goal.returns-clause-progress
-returns-clause-progress g c =
-    let whole = rw (drop_all c.loop-agent.agent-index c.args.agents.now c.loop-agent-test.false) at c.loop-agent.invariant.whole in
-    ap (λ (p : Passed). p.progress) whole
+    turns_end (site_at g.D.Driver.meaning c.args.self.now c.args.controller) c.loop-agent.pass.starts.items c.loop-agent.pass.left.items c.loop-agent.connecting _ whole
 
 pub returns-clause-grows : goal.returns-clause-grows
 returns-clause-grows g c = c.loop-agent.invariant.grows
