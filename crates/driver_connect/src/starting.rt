@@ -2,7 +2,7 @@
 ghost use Rattle.std.specs.Prelude.{◌≡◌, ◌++◌, true, false, IfOk, OnOk};
 ghost use Rattle.driver_connect.specs.GoingOn.{GoesOn};
 ghost use Rattle.driver_connect.specs.Room.{HasRoom, Grows};
-ghost use Rattle.driver_connect.specs.Sites.{EndsAs, begun, passed, site_at};
+ghost use Rattle.driver_connect.specs.Sites.{EndsAs, TakesTurn, begun, passed, site_at};
 ghost use Rattle.driver_connect.specs.Starting as spec;
 ghost use Rattle.driver_connect.specs.Starting.{all_passes, pass, protocols_at};
 
@@ -181,10 +181,8 @@ impl<'a, D: Driver, A: Allocator + Copy> Starter<'a, D, A> {
     ) -> Result<Option<bool>, AllocError>
         requires room { HasRoom connecting.old.handles }
         requires protocols { protocols.now ≡ protocols_at connecting.old controller }
-        ensures turn { IfOk result (λ t. t
-            ≡ spec.turn (site_at D.meaning self.now controller) connecting.old agent.now) }
-        ensures progress { OnOk result (connecting.new
-            ≡ spec.after_turn (site_at D.meaning self.now controller) connecting.old agent.now) }
+        ensures turn { IfOk result (λ t. TakesTurn (site_at D.meaning self.now controller)
+            connecting.old agent.now t connecting.new) }
         ensures stays { IfOk result
             (λ t. spec.is_change t ≡ false → connecting.new ≡ connecting.old) }
         ensures grows { OnOk result (Grows connecting.old.handles connecting.new.handles) }

@@ -47,24 +47,6 @@ fn is_unobstructed_on<A: Allocator + Copy>(
         .all(|o| o.handle != handle || is_no_obstacle(handles, set, o))
 }
 
-/// Whether the items on the handles that go, which the pairs of the set made, are no obstacles.
-fn is_unobstructed<A: Allocator + Copy>(
-    handles: &Handles<A>,
-    opens: &Opens<A>,
-    set: &[Pair],
-    made: &[u64],
-) -> bool
-    requires { made.now ≡ spec.made_by handles.now set.now }
-    ensures { result ≡ spec.is_unobstructed handles.now opens.now set.now }
-{
-    for n in made {
-        if !is_unobstructed_on(handles, opens.near(*n), set, *n) {
-            return false;
-        }
-    }
-    true
-}
-
 /// Whether an agent is that of one of some pairs.
 fn has_agent(pairs: &[Pair], agent: u64) -> bool
     ensures { result ≡ spec.has_agent pairs.now agent }
@@ -122,6 +104,19 @@ impl<'a, A: Allocator + Copy> Lists<'a, A> {
         Ok(true)
     }
 
+    /// Whether the items on the handles that go, which the pairs of the set made, are no obstacles.
+    fn is_unobstructed(&self, set: &[Pair], made: &[u64]) -> bool
+        requires { made.now ≡ spec.made_by self.now.handles.now set.now }
+        ensures { result ≡ spec.is_unobstructed self.now.handles.now self.now.opens.now set.now }
+    {
+        for n in made {
+            if !is_unobstructed_on(self.handles, self.opens.near(*n), set, *n) {
+                return false;
+            }
+        }
+        true
+    }
+
     /// Whether a stop set can be stopped.
     fn can_be_stopped<D: Driver>(
         &self,
@@ -138,7 +133,7 @@ impl<'a, A: Allocator + Copy> Lists<'a, A> {
         }
         let made = made_by(self.alloc, self.handles, set)?;
         Ok(
-            is_unobstructed(self.handles, self.opens, set, made.as_slice())
+            self.is_unobstructed(set, made.as_slice())
                 && !is_made_by(self.handles, set, handle)
                 && spares_opener(self.handles, set, opener),
         )

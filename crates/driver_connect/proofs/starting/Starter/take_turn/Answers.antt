@@ -1,4 +1,4 @@
-use Rattle.std.proofs.Common.{◌≡◌, true, false, sym, ap, ◌∙◌}
+use Rattle.std.proofs.Common.{◌≡◌, true, false, sym, ap, ◌∙◌, rules}
 use Rattle.driver_connect.specs.Starting.{Progress, is_carried_out, is_supported, site_of}
 use Rattle.driver_connect.proofs.GoingOn.{goes_nowhere}
 use Rattle.driver_connect.proofs.Passes.{turn_of}
@@ -16,15 +16,7 @@ returns-then-not-can_start-clause-turn g c =
     let table = ap (λ (p : Progress). p.handles) c.connecting.view_is in
     let s : is_supported site c.args.connecting.now c.args.agent.now ≡ true = rw c.requires.protocols at (sym c.supports_at.ensures.supports ∙ c.if-not-supports_at.false) in
     let k : is_carried_out site c.args.connecting.now c.args.agent.now ≡ false = rw (c.plan_at-plan.ensures, c.requires.protocols, table) at (sym c.can_start.ensures ∙ c.if-not-can_start.true) in
-    (turn_of site c.args.connecting.now c.args.agent.now false s k).0
-
-pub returns-then-not-can_start-clause-progress : goal.returns-then-not-can_start-clause-progress
-returns-then-not-can_start-clause-progress g c =
-    let site = site_of g.D.Driver.meaning c.args.self.now.drivers.now c.args.self.now.notify.now c.args.controller in
-    let table = ap (λ (p : Progress). p.handles) c.connecting.view_is in
-    let s : is_supported site c.args.connecting.now c.args.agent.now ≡ true = rw c.requires.protocols at (sym c.supports_at.ensures.supports ∙ c.if-not-supports_at.false) in
-    let k : is_carried_out site c.args.connecting.now c.args.agent.now ≡ false = rw (c.plan_at-plan.ensures, c.requires.protocols, table) at (sym c.can_start.ensures ∙ c.if-not-can_start.true) in
-    (turn_of site c.args.connecting.now c.args.agent.now false s k).1
+    turn_of site c.args.connecting.now c.args.agent.now false s k
 
 pub carry_out-requires-clause-can : goal.carry_out-requires-clause-can
 carry_out-requires-clause-can g c =
@@ -37,4 +29,5 @@ returns-clause-turn g c =
     let table = ap (λ (p : Progress). p.handles) c.connecting.view_is in
     let s : is_supported site c.args.connecting.now c.args.agent.now ≡ true = rw c.requires.protocols at (sym c.supports_at.ensures.supports ∙ c.if-not-supports_at.false) in
     let k : is_carried_out site c.args.connecting.now c.args.agent.now ≡ true = rw (c.plan_at-plan.ensures, c.requires.protocols, table) at (sym c.can_start.ensures ∙ c.if-not-can_start.false) in
-    (turn_of site c.args.connecting.now c.args.agent.now true s k).0
+    let t = turn_of site c.args.connecting.now c.args.agent.now true s k in
+    (t.0, search rules)
