@@ -1,12 +1,12 @@
 -- Handles that are still to be connected.
-use Rattle.std.specs.Prelude.{◌≡◌, ℕ, ◌+◌, ◌≤◌, List, [], ◌∷◌, ◌++◌, length, map}
+use Rattle.std.specs.Prelude.{◌≡◌, ℕ, ◌+◌, ◌≤◌, Bool, List, [], ◌∷◌, ◌++◌, length, map}
 use Rattle.std.specs.declared.vec.Vec.{Vec}
 use Rattle.protocol_notify.specs.declared.notify.Registration.{Registration}
 use Rattle.driver_connect.specs.declared.connecting.Pending.{Pending}
 use Rattle.driver_connect.specs.Drivers.{Meaning}
 use Rattle.driver_connect.specs.declared.starting.Starter.{Starter}
 use Rattle.driver_connect.specs.Sites.{site_at}
-use Rattle.driver_connect.specs.Starting.{Progress, site}
+use Rattle.driver_connect.specs.Starting.{Progress, is_any_carried_out, site, starts_on}
 use Rattle.driver_connect.specs.Connecting.{connected}
 
 -- some handles, each with the same number of levels below it, the first one last
@@ -28,6 +28,13 @@ ConnectsOne meaning s next named pending p new_pending new =
     all_connected (map meaning s.drivers.now) s.notify.now new_pending.items new ≡
     all_connected (map meaning s.drivers.now) s.notify.now pending.items
     (connected next.levels (site_at meaning s next.handle) named p)
+
+-- a handle is connected with all below it, and this says whether a start on it was carried out
+abbrev pub ConnectsLevels : {D A : Type 0} → (D → Meaning) → Starter D A → Pending → List ℕ
+    → Progress → Bool → Progress → Type 0
+ConnectsLevels meaning s first named p b new =
+    (b ≡ is_any_carried_out (starts_on (site_at meaning s first.handle) named p).starts)
+    × (new ≡ connected first.levels (site_at meaning s first.handle) named p)
 
 -- what is still to be connected grows by no more than the handles
 abbrev pub GrowsWith : {A : Type 0} → Vec Pending A → Progress → Vec Pending A → Progress → Type 0

@@ -2,7 +2,7 @@
 ghost use Rattle.std.specs.Prelude.{◌≡◌, ◌+◌, ◌<◌, ◌≤◌, ◌^◌, ◌++◌, true, false, [], length, IfOk, OnOk, OnErr};
 ghost use Rattle.driver_connect.specs.Connecting as spec;
 ghost use Rattle.driver_connect.specs.Connecting.{ConnectsAll, ConnectsBy};
-ghost use Rattle.driver_connect.specs.Pending.{ConnectsOne, GrowsWith, first_last};
+ghost use Rattle.driver_connect.specs.Pending.{ConnectsLevels, ConnectsOne, GrowsWith, first_last};
 ghost use Rattle.guid_handles.specs.HandleChanges.{IsHandleTable, max_in_table};
 ghost use Rattle.driver_connect.specs.GoingOn.{GoesOn};
 ghost use Rattle.driver_connect.specs.Room.{HasRoom, Grows};
@@ -104,12 +104,8 @@ impl<'a, D: Driver, A: Allocator + Copy> Starter<'a, D, A> {
         named: &[u64],
     ) -> Result<bool, AllocError>
         requires { HasRoom connecting.old.handles }
-        ensures carried_out { IfOk result (λ b. b
-            ≡ any (starts_on (site_at D.meaning self.now first.handle) named.now
-            connecting.old).starts) }
-        ensures progress { OnOk result (connecting.new
-            ≡ spec.connected first.levels (site_at D.meaning self.now first.handle) named.now
-            connecting.old) }
+        ensures whole { IfOk result (λ b. ConnectsLevels D.meaning self.now first named.now
+            connecting.old b connecting.new) }
         ensures grows { OnOk result (Grows connecting.old.handles connecting.new.handles) }
         ensures goes_on { GoesOn connecting.old connecting.new }
     {
@@ -134,12 +130,8 @@ impl<'a, D: Driver, A: Allocator + Copy> Starter<'a, D, A> {
     ) -> Result<(bool, Vec<u64, A>), AllocError>
         requires numbers { handles.old.last_number < 2 ^ 61 }
         requires stamps { handles.old.last_stamp < 2 ^ 61 }
-        ensures carried_out { IfOk result (λ r. r.0
-            ≡ any (starts_on (site_at D.meaning self.now first.handle) named.now
-            (begun handles.old opens.old given)).starts) }
-        ensures progress { IfOk result (λ r. begun handles.new opens.new r.1
-            ≡ spec.connected first.levels (site_at D.meaning self.now first.handle) named.now
-            (begun handles.old opens.old given)) }
+        ensures whole { IfOk result (λ r. ConnectsLevels D.meaning self.now first named.now
+            (begun handles.old opens.old given) r.0 (begun handles.new opens.new r.1)) }
         ensures err { OnErr result ((handles.new ≡ handles.old) × (opens.new ≡ opens.old)) }
         ensures numbers { handles.new.last_number ≤ handles.old.last_number + 4096 }
         ensures stamps { handles.new.last_stamp ≤ handles.old.last_stamp + 16384 }

@@ -85,13 +85,13 @@ impl<'a, A: Allocator + Copy> Lists<'a, A> {
     }
 
     /// Adds the managers of the handles that the pairs of a set from a place on made.
-    fn add_managers(&self, set: &mut Vec<Pair, A>, from: usize) -> Result<(), AllocError>
-        requires { from ≤ length set.old.items }
+    fn add_managers(&self, set: &mut Vec<Pair, A>, at: usize) -> Result<(), AllocError>
+        requires { at ≤ length set.old.items }
         ensures { OnOk result (set.new.items ≡ spec.with_pairs set.old.items
             (spec.managers_of_made self.now.handles.now self.now.opens.now
-            (drop from set.old.items))) }
+            (drop at set.old.items))) }
     {
-        let managers = self.managers_of_made(&set.as_slice()[from..])?;
+        let managers = self.managers_of_made(&set.as_slice()[at..])?;
         add_pairs(set, managers.as_slice())
     }
 
@@ -115,8 +115,8 @@ impl<'a, A: Allocator + Copy> Lists<'a, A> {
 
     /// The stop set of the pairs of a set.
     pub(crate) fn stop_set(&self, mut set: Vec<Pair, A>) -> Result<Vec<Pair, A>, AllocError>
-        ensures { IfOk result (λ whole. (pairs : List Pair) → set.items ≡ spec.with_pairs [] pairs
-            → whole.items ≡ spec.stop_set self.now.handles.now self.now.opens.now pairs) }
+        ensures { IfOk result (λ v. (ps : List Pair) → set.items ≡ spec.with_pairs [] ps
+            → v.items ≡ spec.stop_set self.now.handles.now self.now.opens.now ps) }
     {
         // There are at most this many items, and further rounds add nothing.
         let most = self.handles.all().len() + self.opens.slots().len();

@@ -104,7 +104,8 @@ impl<A: Allocator + Copy> Connecting<A> {
         protocols: Vec<ProtocolView, A>,
         turn: Option<bool>,
     ) -> Result<Vec<ProtocolView, A>, AllocError>
-        requires { spec.is_change turn ≡ false → protocols.items ≡ protocols_at self.now controller }
+        requires { spec.is_change turn ≡ false
+            → protocols.items ≡ protocols_at self.now controller }
         ensures { IfOk result (λ v. v.items ≡ protocols_at self.now controller) }
     {
         match turn {

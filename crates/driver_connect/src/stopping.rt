@@ -233,8 +233,8 @@ impl<A: Allocator + Copy> StopPlan<A> {
     /// What the stop of the pairs of a set removes. Where they made no handle, it stops no other pairs.
     fn of_set(lists: &Lists<A>, set: Vec<Pair, A>) -> Result<StopPlan<A>, AllocError>
         ensures { IfOk result
-            (λ plan. (pairs : List Pair) → set.items ≡ spec.with_pairs [] pairs
-            → plan ≡ spec.planned_stop lists.now.handles.now lists.now.opens.now pairs) }
+            (λ plan. (ps : List Pair) → set.items ≡ spec.with_pairs [] ps
+            → plan ≡ spec.planned_stop lists.now.handles.now lists.now.opens.now ps) }
     {
         let made = made_by(lists.alloc, lists.handles, set.as_slice())?;
         if made.is_empty() {

@@ -10,24 +10,21 @@ take_back_to-requires-clause-older g c =
     rw (c.put_in_place-events.ensures.handles, c.last_number-number.ensures, c.last_stamp-stamp.ensures.stamp)
     (those_older c.args.handles.now c.connect_levels-connected.new.connecting.handles c.all-numbers.ensures.proper m.handles (rw c.last_stamp-stamp.ensures.stamp at c.last_stamp-stamp.ensures.latest))
 
-pub returns-in-Ok-clause-carried_out : goal.returns-in-Ok-clause-carried_out
-returns-in-Ok-clause-carried_out g c = rw c.take-connecting.ensures at c.in-Ok.ensures.carried_out
-
-pub returns-in-Ok-clause-progress : goal.returns-in-Ok-clause-progress
-returns-in-Ok-clause-progress g c =
-    rw (c.put_in_place-events.ensures.handles, c.put_in_place-events.ensures.opens, c.put_in_place-events.ensures.events) (rw c.take-connecting.ensures at c.in-Ok.ensures.progress)
+pub returns-in-Ok-clause-whole : goal.returns-in-Ok-clause-whole
+returns-in-Ok-clause-whole g c =
+    rw (c.put_in_place-events.ensures.handles, c.put_in_place-events.ensures.opens, c.put_in_place-events.ensures.events) (rw c.take-connecting.ensures at c.in-Ok.ensures.whole)
 
 pub returns-in-Ok-clause-numbers : goal.returns-in-Ok-clause-numbers
 returns-in-Ok-clause-numbers g c =
     let there = site_at g.D.Driver.meaning c.args.self.now c.args.first.handle in
     rw c.put_in_place-events.ensures.handles
-    (numbers_rise (begun c.args.handles.now c.args.opens.now c.args.given) c.connect_levels-connected.new.connecting c.args.first.levels there c.args.named.now (rw c.take-connecting.ensures at c.in-Ok.ensures.progress) (rw c.take-connecting.ensures at c.in-Ok.ensures.grows))
+    (numbers_rise (begun c.args.handles.now c.args.opens.now c.args.given) c.connect_levels-connected.new.connecting c.args.first.levels there c.args.named.now (rw c.take-connecting.ensures at c.in-Ok.ensures.whole).1 (rw c.take-connecting.ensures at c.in-Ok.ensures.grows))
 
 pub returns-in-Ok-clause-stamps : goal.returns-in-Ok-clause-stamps
 returns-in-Ok-clause-stamps g c =
     let there = site_at g.D.Driver.meaning c.args.self.now c.args.first.handle in
     rw c.put_in_place-events.ensures.handles
-    (stamps_rise (begun c.args.handles.now c.args.opens.now c.args.given) c.connect_levels-connected.new.connecting c.args.first.levels there c.args.named.now (rw c.take-connecting.ensures at c.in-Ok.ensures.progress) (rw c.take-connecting.ensures at c.in-Ok.ensures.grows))
+    (stamps_rise (begun c.args.handles.now c.args.opens.now c.args.given) c.connect_levels-connected.new.connecting c.args.first.levels there c.args.named.now (rw c.take-connecting.ensures at c.in-Ok.ensures.whole).1 (rw c.take-connecting.ensures at c.in-Ok.ensures.grows))
 
 pub returns-in-Err-clause-err : goal.returns-in-Err-clause-err
 returns-in-Err-clause-err g c =
