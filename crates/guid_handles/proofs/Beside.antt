@@ -1,21 +1,22 @@
 -- Stamps beside handles that ascend: which one is beside a handle, what changes it, and which is next.
 use Rattle.std.proofs.Math.ListN.{set}
-use Rattle.std.proofs.Common.{◌≡◌, ◌⊎◌, ℕ, zero, suc, ◌<◌, ◌≤◌, ◌==◌, nat_lt, true, false, cond, List, [], ◌∷◌, length, Option, Some, None, is_some, inl, inr, refl, sym, ap, ◌∙◌, arith, subst}
+use Rattle.std.proofs.Common.{get_or, ◌≡◌, ◌⊎◌, ℕ, zero, suc, ◌<◌, ◌≤◌, ◌==◌, nat_lt, true, false, cond, List, [], ◌∷◌, length, Option, Some, None, is_some, inl, inr, refl, sym, ap, ◌∙◌, arith, subst}
 use Rattle.std.specs.List.{AllByRecursion, slice_get, insert, remove}
 use Rattle.std.proofs.lemmas.Bool.{cases_Bool, ne_eqb, eq-eqb, ltb-true, ltb-false}
 use Rattle.std.proofs.lemmas.Bool.Decides.{eqb_tells}
 use Rattle.std.proofs.lemmas.Option.{same_Some}
-use Rattle.guid_handles.specs.Sorting.{place, kept_if}
-use Rattle.guid_handles.specs.Indexes.{AreBeside, IsNext, least_after, sooner, stamp_beside}
+use Rattle.guid_handles.specs.Places.{has_place}
+use Rattle.guid_handles.specs.Sorting.{Ascending, place, kept_if}
+use Rattle.guid_handles.specs.Indexes.{AreBeside, IsNext, least_after, sooner, number_beside}
 use Rattle.guid_handles.proofs.SortedLists.{all_map, got_all, ascending_insert, ascending_remove}
 use Rattle.guid_handles.proofs.Grouped.{above, is_same}
 
-beside_none : (n : ℕ) (hs ks : List ℕ) → AllByRecursion (λ m. (m == n) ≡ false) hs → stamp_beside hs ks n ≡ None
+beside_none : (n : ℕ) (hs ks : List ℕ) → AllByRecursion (λ m. (m == n) ≡ false) hs → number_beside hs ks n ≡ None
 beside_none n [] ks a = refl
 beside_none n (h ∷ hs) [] a = refl
 beside_none n (h ∷ hs) (k ∷ ks) a = rw a.0 (beside_none n hs ks a.1)
 
-none_beside : (n : ℕ) (hs ks : List ℕ) → length hs ≡ length ks → stamp_beside hs ks n ≡ None → AllByRecursion (λ m. (m == n) ≡ false) hs
+none_beside : (n : ℕ) (hs ks : List ℕ) → length hs ≡ length ks → number_beside hs ks n ≡ None → AllByRecursion (λ m. (m == n) ≡ false) hs
 none_beside n [] ks e z = tt
 none_beside n (h ∷ hs) [] e z = absurd (omega (arith, e))
 none_beside n (h ∷ hs) (k ∷ ks) e z = elim (cases_Bool (h == n)) [
@@ -28,7 +29,7 @@ higher n hs h a l = all_map (λ m. h < m) (λ m. (m == n) ≡ false) (λ m b. ne
 
 -- the stamp beside a handle is at the place of the handle
 pub beside_found : (n : ℕ) (hs ks : List ℕ) → AreBeside hs ks
-    → stamp_beside hs ks n ≡ cond (is_some (kept_if (λ m. m == n) (slice_get hs (place (λ m. nat_lt m n) hs)))) (slice_get ks (place (λ m. nat_lt m n) hs)) None
+    → number_beside hs ks n ≡ cond (is_some (kept_if (λ m. m == n) (slice_get hs (place (λ m. nat_lt m n) hs)))) (slice_get ks (place (λ m. nat_lt m n) hs)) None
 beside_found n [] ks a = refl
 beside_found n (h ∷ hs) [] a = absurd (omega (arith, a.even))
 beside_found n (h ∷ hs) (k ∷ ks) a = elim (cases_Bool (nat_lt h n)) [
@@ -41,9 +42,34 @@ beside_found n (h ∷ hs) (k ∷ ks) a = elim (cases_Bool (nat_lt h n)) [
   ])
 ]
 
+-- what is at an index that is there
+pub at_index : {X : Type 0} (xs : List X) (at : ℕ) (d : X) → at < length xs → slice_get xs at ≡ Some (get_or xs at d)
+at_index [] at d l = absurd (omega (arith, l))
+at_index (x ∷ xs) zero d l = refl
+at_index (x ∷ xs) (suc at) d l = at_index xs at d (omega (arith, l))
+
+pub beside_there : (hs ks : List ℕ) (at h k : ℕ) → Ascending (λ a b. a < b) hs → slice_get hs at ≡ Some h → slice_get ks at ≡ Some k → number_beside hs ks h ≡ Some k
+beside_there [] ks zero h k a e f = absurd cc
+beside_there [] ks (suc at) h k a e f = absurd cc
+beside_there (x ∷ xs) [] zero h k a e f = absurd cc
+beside_there (x ∷ xs) [] (suc at) h k a e f = absurd cc
+beside_there (x ∷ xs) (y ∷ ys) zero h k a e f = let t : (x == h) ≡ true = eq-eqb x h (same_Some x h e) in rw t f
+beside_there (x ∷ xs) (y ∷ ys) (suc at) h k a e f =
+    let l : x < h = got_all (λ m. x < m) xs at h a.0 e in
+    let d : (x == h) ≡ false = ne_eqb x h (λ w. omega (arith, l, w)) in
+    rw d (beside_there xs ys at h k a.1 e f)
+
+pub beside_absent : (n : ℕ) (hs ks : List ℕ) → has_place hs n ≡ false → number_beside hs ks n ≡ None
+beside_absent n [] ks e = refl
+beside_absent n (h ∷ hs) [] e = refl
+beside_absent n (h ∷ hs) (k ∷ ks) e = elim (cases_Bool (h == n)) [
+  | inl t ↦ let w = rw t at e in absurd cc
+  | inr f ↦ rw f (beside_absent n hs ks (rw f at e))
+]
+
 -- ---- one more
 
-pub beside_insert : (hs ks : List ℕ) (at h k n : ℕ) → length hs ≡ length ks → stamp_beside hs ks h ≡ None → stamp_beside (insert hs at h) (insert ks at k) n ≡ cond (h == n) (Some k) (stamp_beside hs ks n)
+pub beside_insert : (hs ks : List ℕ) (at h k n : ℕ) → length hs ≡ length ks → number_beside hs ks h ≡ None → number_beside (insert hs at h) (insert ks at k) n ≡ cond (h == n) (Some k) (number_beside hs ks n)
 beside_insert [] [] zero h k n e z = refl
 beside_insert [] [] (suc at) h k n e z = refl
 beside_insert [] (y ∷ ys) at h k n e z = absurd (omega (arith, e))
@@ -67,7 +93,7 @@ even_insert (x ∷ xs) [] at h k e = absurd (omega (arith, e))
 even_insert (x ∷ xs) (y ∷ ys) zero h k e = omega (arith, e)
 even_insert (x ∷ xs) (y ∷ ys) (suc at) h k e = omega (arith, even_insert xs ys at h k (omega (arith, e)))
 
-pub insert_beside : (hs ks : List ℕ) (at h k : ℕ) → AreBeside hs ks → stamp_beside hs ks h ≡ None → at ≡ place (λ m. nat_lt m h) hs → AreBeside (insert hs at h) (insert ks at k)
+pub insert_beside : (hs ks : List ℕ) (at h k : ℕ) → AreBeside hs ks → number_beside hs ks h ≡ None → at ≡ place (λ m. nat_lt m h) hs → AreBeside (insert hs at h) (insert ks at k)
 insert_beside hs ks at h k a z e = record {
   ascending = rw e (ascending_insert (λ a b. a < b) (λ x y z l m. omega (arith, l, m)) (λ m. nat_lt m h) hs h
       (all_map (λ m. (m == h) ≡ false) (λ m. (nat_lt m h ≡ true → m < h) × (nat_lt m h ≡ false → h < m)) (λ m f. (λ t. ltb-true m h t, λ l. above m h f l)) hs (none_beside h hs ks a.even z))
@@ -77,7 +103,7 @@ insert_beside hs ks at h k a z e = record {
 
 -- ---- one less
 
-pub beside_remove : (hs ks : List ℕ) (at h n : ℕ) → AreBeside hs ks → slice_get hs at ≡ Some h → stamp_beside (remove hs at) (remove ks at) n ≡ cond (h == n) None (stamp_beside hs ks n)
+pub beside_remove : (hs ks : List ℕ) (at h n : ℕ) → AreBeside hs ks → slice_get hs at ≡ Some h → number_beside (remove hs at) (remove ks at) n ≡ cond (h == n) None (number_beside hs ks n)
 beside_remove [] ks zero h n a e = absurd cc
 beside_remove [] ks (suc at) h n a e = absurd cc
 beside_remove (x ∷ xs) [] at h n a e = absurd (omega (arith, a.even))
@@ -108,7 +134,7 @@ remove_beside hs ks at a = record {
   even = even_remove hs ks at a.even;
 }
 
-pub none_beside_at : (n at : ℕ) (hs ks : List ℕ) → AreBeside hs ks → at ≡ place (λ m. nat_lt m n) hs → is_some (kept_if (λ m. m == n) (slice_get hs at)) ≡ false → stamp_beside hs ks n ≡ None
+pub none_beside_at : (n at : ℕ) (hs ks : List ℕ) → AreBeside hs ks → at ≡ place (λ m. nat_lt m n) hs → is_some (kept_if (λ m. m == n) (slice_get hs at)) ≡ false → number_beside hs ks n ≡ None
 none_beside_at n at hs ks a e f =
     let s : is_some (kept_if (λ m. m == n) (slice_get hs (place (λ m. nat_lt m n) hs))) ≡ false = rw e at f in
     beside_found n hs ks a ∙ rw s refl
@@ -122,15 +148,15 @@ kept_there n (Some m) h = elim (cases_Bool (m == n)) [
 ]
 
 -- where a handle has no stamp, to take it away changes nothing
-pub absent_same : (h n : ℕ) (hs ks : List ℕ) → stamp_beside hs ks h ≡ None → stamp_beside hs ks n ≡ cond (h == n) None (stamp_beside hs ks n)
+pub absent_same : (h n : ℕ) (hs ks : List ℕ) → number_beside hs ks h ≡ None → number_beside hs ks n ≡ cond (h == n) None (number_beside hs ks n)
 absent_same h n hs ks e = elim (eqb_tells h n) [
-  | inl t ↦ rw t.0 (ap (stamp_beside hs ks) (sym t.1) ∙ e)
+  | inl t ↦ rw t.0 (ap (number_beside hs ks) (sym t.1) ∙ e)
   | inr f ↦ rw f.0 refl
 ]
 
 -- ---- one changed
 
-pub beside_set : (hs ss : List ℕ) (at h s n : ℕ) → AreBeside hs ss → slice_get hs at ≡ Some h → stamp_beside hs (set ss at s) n ≡ cond (h == n) (Some s) (stamp_beside hs ss n)
+pub beside_set : (hs ss : List ℕ) (at h s n : ℕ) → AreBeside hs ss → slice_get hs at ≡ Some h → number_beside hs (set ss at s) n ≡ cond (h == n) (Some s) (number_beside hs ss n)
 beside_set [] ss zero h s n a e = absurd cc
 beside_set [] ss (suc at) h s n a e = absurd cc
 beside_set (x ∷ xs) [] at h s n a e = absurd (omega (arith, a.even))
@@ -158,7 +184,7 @@ set_beside hs ss at s a = record { ascending = a.ascending; even = a.even ∙ sy
 
 -- ---- the next stamp
 
-above_first : (h n s : ℕ) (hs ss : List ℕ) → AllByRecursion (λ m. h < m) hs → stamp_beside hs ss n ≡ Some s → h < n
+above_first : (h n s : ℕ) (hs ss : List ℕ) → AllByRecursion (λ m. h < m) hs → number_beside hs ss n ≡ Some s → h < n
 above_first h n s [] ss a e = absurd cc
 above_first h n s (x ∷ xs) [] a e = absurd cc
 above_first h n s (x ∷ xs) (y ∷ ys) a e = elim (eqb_tells x n) [
@@ -167,7 +193,7 @@ above_first h n s (x ∷ xs) (y ∷ ys) a e = elim (eqb_tells x n) [
 ]
 
 -- one stamp more that is not above the mark
-next_skip : (mark h s : ℕ) (hs ss : List ℕ) (r : Option (ℕ × ℕ)) → AllByRecursion (λ m. h < m) hs → nat_lt mark s ≡ false → IsNext mark (stamp_beside hs ss) r → IsNext mark (stamp_beside (h ∷ hs) (s ∷ ss)) r
+next_skip : (mark h s : ℕ) (hs ss : List ℕ) (r : Option (ℕ × ℕ)) → AllByRecursion (λ m. h < m) hs → nat_lt mark s ≡ false → IsNext mark (number_beside hs ss) r → IsNext mark (number_beside (h ∷ hs) (s ∷ ss)) r
 next_skip mark h s hs ss None a f i = λ n t e. elim (eqb_tells h n) [
   | inl w ↦ subst (λ (x : ℕ). nat_lt mark x ≡ false) (same_Some s t (rw w.0 at e)) f
   | inr w ↦ i n t (rw w.0 at e)
@@ -184,7 +210,7 @@ next_skip mark h s hs ss (Some p) a f i =
     )
 
 -- one stamp more above the mark
-next_take : (mark h s : ℕ) (hs ss : List ℕ) (r : Option (ℕ × ℕ)) → AllByRecursion (λ m. h < m) hs → nat_lt mark s ≡ true → IsNext mark (stamp_beside hs ss) r → IsNext mark (stamp_beside (h ∷ hs) (s ∷ ss)) (sooner h s r)
+next_take : (mark h s : ℕ) (hs ss : List ℕ) (r : Option (ℕ × ℕ)) → AllByRecursion (λ m. h < m) hs → nat_lt mark s ≡ true → IsNext mark (number_beside hs ss) r → IsNext mark (number_beside (h ∷ hs) (s ∷ ss)) (sooner h s r)
 next_take mark h s hs ss None a f i = (
   rw (eq-eqb h h refl) refl,
   f,
@@ -218,7 +244,7 @@ next_take mark h s hs ss (Some p) a f i = elim (cases_Bool (nat_lt p.1 s)) [
       )
 ]
 
-pub next_is_least : (mark : ℕ) (hs ss : List ℕ) → AreBeside hs ss → IsNext mark (stamp_beside hs ss) (least_after mark hs ss)
+pub next_is_least : (mark : ℕ) (hs ss : List ℕ) → AreBeside hs ss → IsNext mark (number_beside hs ss) (least_after mark hs ss)
 next_is_least mark [] ss a = λ n t e. absurd cc
 next_is_least mark (h ∷ hs) [] a = absurd (omega (arith, a.even))
 next_is_least mark (h ∷ hs) (s ∷ ss) a =

@@ -14,7 +14,7 @@ use Rattle.std.proofs.lemmas.List.{set-get_or}
 use Rattle.std.proofs.lemmas.Option.{same_Some}
 use Rattle.guid_handles.specs.HandleTables.{same_guid}
 use Rattle.guid_handles.specs.Sorting.{Ascending, place, kept_if}
-use Rattle.guid_handles.specs.Indexes.{Group, AreGroups, IsNext, is_bare, is_group_of, is_before, AscendByGuid, IsPlaceOf, stamp_beside, stamp_in, stamp_at}
+use Rattle.guid_handles.specs.Indexes.{Group, AreGroups, IsNext, is_bare, is_group_of, is_before, AscendByGuid, IsPlaceOf, number_beside, stamp_in, stamp_at}
 use Rattle.guid_handles.proofs.SortedLists.{IsSplit, all_insert, all_mapped, all_remove, all_set, ascending_remove, set_same, find_none, found_none, find_split, find_insert_other, find_insert_new, ascending_insert, map_insert, map_remove, place_map}
 use Rattle.guid_handles.proofs.GuidOrder.{same_guid-true, guid_splits, is_less, less_from, greater_of, and_false, and_true}
 
@@ -72,7 +72,7 @@ none_returned now groups guid at o a e k s = sym (found_group groups guid at a e
 pub no_stamps : (g : Group) → is_bare g ≡ true → (n : ℕ) → stamp_in g n ≡ None
 no_stamps g b n = held_none g.holders (is_same (length g.holders) 0 b)
   where
-    held_none : (hs : List ℕ) → length hs ≡ 0 → stamp_beside hs g.stamps n ≡ None
+    held_none : (hs : List ℕ) → length hs ≡ 0 → number_beside hs g.stamps n ≡ None
     held_none [] z = refl
     held_none (h ∷ hs) z = absurd (omega (arith, z))
 
@@ -267,7 +267,7 @@ none_there groups guid m none k n = elim (cases_Bool (same_guid guid k)) [
 pub holders_returned : (groups : List Group) (guid : List ℕ) (g : Group) → Some g ≡ find (is_group_of guid) groups → length g.holders ≡ length g.stamps → (n : ℕ) → list_any (λ h. h == n) g.holders ≡ is_some (stamp_at groups guid n)
 holders_returned groups guid g e even n = any_beside n g.holders g.stamps even ∙ ap (λ o. is_some (option_and_then (λ h. stamp_in h n) o)) e
   where
-    any_beside : (n : ℕ) (hs ks : List ℕ) → length hs ≡ length ks → list_any (λ h. h == n) hs ≡ is_some (stamp_beside hs ks n)
+    any_beside : (n : ℕ) (hs ks : List ℕ) → length hs ≡ length ks → list_any (λ h. h == n) hs ≡ is_some (number_beside hs ks n)
     any_beside n [] ks e = refl
     any_beside n (h ∷ hs) [] e = absurd (omega (arith, e))
     any_beside n (h ∷ hs) (k ∷ ks) e = elim (cases_Bool (h == n)) [

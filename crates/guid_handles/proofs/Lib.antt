@@ -8,8 +8,7 @@ pub mod Indexed
 pub mod Grouped
 pub mod Beside
 pub mod Numbered
-pub mod FiledRows
-pub mod SlidRows
+pub mod Refused
 pub mod Slotted
 pub mod Filed
 pub mod ByGuid
@@ -21,4 +20,5 @@ pub mod Following
 pub mod PlaceLists
 pub mod FirstMap
 pub mod Made
+pub mod PlacedRows
 pub mod TakenBack

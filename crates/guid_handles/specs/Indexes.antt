@@ -1,22 +1,16 @@
 -- The keys of interfaces by handle in rows, and their stamps by GUID in groups.
-use Rattle.std.specs.Prelude.{◌≡◌, ℕ, ◌<◌, ◌≤◌, ◌==◌, ◌&&◌, nat_eq, nat_lt, Bool, true, false, not, cond, List, [], ◌∷◌, map, length, Option, None, Some, is_some}
-use Rattle.std.specs.List.{find, list_any, AllByRecursion, slice_get}
-use Rattle.std.specs.Option.{option_and_then}
+use Rattle.std.specs.Prelude.{◌≡◌, ◌≢◌, ℕ, ◌<◌, ◌≤◌, ◌==◌, ◌&&◌, nat_eq, nat_lt, Bool, true, false, cond, List, [], ◌∷◌, map, length, Option, None, Some, slice_index_or}
+use Rattle.std.specs.List.{find, filter_map, list_any, AllByRecursion, slice_get}
+use Rattle.std.specs.Option.{option_and_then, option_map}
 use Rattle.std.specs.declared.cmp.Ordering.TheVariants.{Less}
 use Rattle.std.specs.Ordering.{nat_cmp, is_lt}
 use Rattle.std.specs.Cmp.Lexicographic.{slice_cmp}
 use Rattle.guid_handles.specs.declared.records.Interface.{Interface}
 use Rattle.guid_handles.specs.declared.records.LiveHandle.{LiveHandle}
-use Rattle.guid_handles.specs.declared.records.Pair.{Pair}
 use Rattle.guid_handles.specs.HandleTables.{same_guid, has_number, is_at}
-use Rattle.guid_handles.specs.Sorting.{Ascending, place, kept_if}
+use Rattle.guid_handles.specs.Sorting.{Ascending, place}
 
 -- ---- by handle
-
--- a live handle of a number, with its maker if a driver made it
-abbrev pub live_handle : ℕ → Bool → Pair → LiveHandle
-live_handle number is_made maker =
-    record { number = number; maker = cond is_made (Some maker) None }
 
 -- a live handle, and the keys of the interfaces on it in order of installation
 pub record Row : Type 0 where
@@ -40,35 +34,25 @@ keys_of (Some r) = r.keys
 abbrev pub keys_on : List Row → ℕ → List ℕ
 keys_on rows n = keys_of (find (is_row_of n) rows)
 
--- a row that is kept, and whether its handle is gone
-pub record FiledRow : Type 0 where
-  pub row : Row
-  pub gone : Bool
+-- the row at a place of a slab
+abbrev pub row_at : List (Option Row) → ℕ → Option Row
+row_at slots p = slice_index_or slots p None
 
-abbrev pub filed_number : FiledRow → ℕ
-filed_number f = f.row.live.number
+-- the rows at places
+abbrev pub rows_at : List (Option Row) → List ℕ → List Row
+rows_at slots ps = filter_map (row_at slots) ps
 
-abbrev pub filed_numbers : List FiledRow → List ℕ
-filed_numbers fs = map filed_number fs
+-- the row at a place is of a handle
+abbrev pub IsPlaceOfRow : List (Option Row) → ℕ → ℕ → Type 0
+IsPlaceOfRow slots n p = option_map (λ r. r.live.number) (row_at slots p) ≡ Some n
 
--- the rows of the handles that are not gone
-abbrev pub rows_in : List FiledRow → List Row
-rows_in [] = []
-rows_in (f ∷ fs) = cond f.gone (rows_in fs) (f.row ∷ rows_in fs)
+abbrev pub with_keys : (List ℕ → List ℕ) → Row → Row
+with_keys f r = record r { keys = f r.keys }
 
--- rows by ascending number, and the numbers of those that are not gone
-pub record AreRows (fs : List FiledRow) (ns : List ℕ) : Type 0 where
-  pub filed : Ascending (λ a b. a < b) (filed_numbers fs)
-  pub ascending : Ascending (λ a b. a < b) ns
-  pub numbers : ns ≡ row_numbers (rows_in fs)
-
--- a row is of a handle that is not gone
-abbrev pub is_filed_of : ℕ → FiledRow → Bool
-is_filed_of n f = has_number n f.row.live && not f.gone
-
--- whether the row of a handle is at a place
-abbrev pub is_filed_at : ℕ → List FiledRow → ℕ → Bool
-is_filed_at n fs at = is_some (kept_if (is_filed_of n) (slice_get fs at))
+-- the keys in the row at a place change, and no other row
+pub record ChangesRow (p : ℕ) (f : List ℕ → List ℕ) (old new : List (Option Row)) : Type 0 where
+  pub here : row_at new p ≡ option_map (with_keys f) (row_at old p)
+  pub others : (q : ℕ) → q ≢ p → row_at new q ≡ row_at old q
 
 -- the keys of one handle change, and nothing else of the rows
 pub record ChangesKeys (n : ℕ) (f : List ℕ → List ℕ) (old new : List Row) : Type 0 where
@@ -88,14 +72,14 @@ pub record AreBeside (holders stamps : List ℕ) : Type 0 where
   pub ascending : Ascending (λ a b. a < b) holders
   pub even : length holders ≡ length stamps
 
--- the stamp beside a handle
-abbrev pub stamp_beside : List ℕ → List ℕ → ℕ → Option ℕ
-stamp_beside [] ss n = None
-stamp_beside (h ∷ hs) [] n = None
-stamp_beside (h ∷ hs) (s ∷ ss) n = cond (h == n) (Some s) (stamp_beside hs ss n)
+-- the number beside a handle
+abbrev pub number_beside : List ℕ → List ℕ → ℕ → Option ℕ
+number_beside [] ss n = None
+number_beside (h ∷ hs) [] n = None
+number_beside (h ∷ hs) (s ∷ ss) n = cond (h == n) (Some s) (number_beside hs ss n)
 
 abbrev pub stamp_in : Group → ℕ → Option ℕ
-stamp_in g n = stamp_beside g.holders g.stamps n
+stamp_in g n = number_beside g.holders g.stamps n
 
 -- a group is of a GUID
 abbrev pub is_group_of : List ℕ → Group → Bool

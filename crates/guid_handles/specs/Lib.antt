@@ -2,7 +2,6 @@ pub mod HandleTables
 pub mod HandleChanges
 pub mod Sorting
 pub mod Indexes
-pub mod Sliding
 pub mod Slots
 pub mod Stores
 pub mod ListRoom

@@ -1,10 +1,10 @@
 -- The handles that drivers made on a controller.
 use Rattle.std.specs.Prelude.{◌≡◌, ℕ, ◌==◌, Bool, false, List, map, Option, Some, None}
-use Rattle.std.specs.List.{filter}
+use Rattle.std.specs.List.{filter, AllZip}
 use Rattle.guid_handles.specs.declared.records.LiveHandle.{LiveHandle}
 use Rattle.guid_handles.specs.declared.records.Pair.{Pair}
 use Rattle.guid_handles.specs.HandleTables.{HandleTable}
-use Rattle.guid_handles.specs.Indexes.{AreRows, FiledRow, lives, rows_in}
+use Rattle.guid_handles.specs.Indexes.{AreBeside, IsPlaceOfRow, Row, lives, rows_at}
 use Rattle.guid_handles.specs.NumberLists.{ChangesList, list_of}
 
 -- a maker, if there is one, is of a controller
@@ -33,8 +33,10 @@ abbrev pub ChangesMade : Option Pair → (List ℕ → List ℕ) → List (ℕ �
 ChangesMade None f old new = new ≡ old
 ChangesMade (Some m) f old new = ChangesList m.controller f old new
 
--- rows, their numbers, and the handles that were made by the controllers of their makers
-pub record AreRowsNoted (fs : List FiledRow) (ns : List ℕ) (lists : List (ℕ × List ℕ))
+-- Ascending numbers, the places of their rows, and the handles that were made by the controllers of
+-- their makers.
+pub record AreRows (ns ps : List ℕ) (slots : List (Option Row)) (lists : List (ℕ × List ℕ))
     : Type 0 where
-  pub rows : AreRows fs ns
-  pub made : AreMadeOn (lives (rows_in fs)) lists
+  pub beside : AreBeside ns ps
+  pub rows : AllZip (IsPlaceOfRow slots) ns ps
+  pub made : AreMadeOn (lives (rows_at slots ps)) lists

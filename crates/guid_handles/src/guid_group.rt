@@ -3,8 +3,8 @@ ghost use Rattle.std.specs.Prelude.{◌≡◌, ◌<◌, ◌==◌, [], length, na
 ghost use Rattle.guid_handles.specs.Sorting.{Ascending};
 ghost use Rattle.guid_handles.specs.Indexes.{IsNext, SetsStampIn, is_bare, least_after, sooner, stamp_in};
 
+use crate::room::{insert_with_room, make_short_room};
 use crate::searches::{count_less, count_less_than_new, is_number_at};
-use crate::sliding_row::SlidingRow;
 use std::alloc::{AllocError, Allocator};
 use std::marker::Model;
 use uuid::Uuid;
@@ -13,8 +13,8 @@ use uuid::Uuid;
 #[derive(Drop)]
 pub(crate) struct GuidGroup<A: Allocator> {
     guid: Uuid,
-    holders: SlidingRow<u64, A>,
-    stamps: SlidingRow<u64, A>,
+    holders: Vec<u64, A>,
+    stamps: Vec<u64, A>,
 }
 
 impl<A: Allocator> Model for GuidGroup<A> {
@@ -69,8 +69,8 @@ impl<A: Allocator + Copy> GuidGroup<A> {
     {
         GuidGroup {
             guid,
-            holders: SlidingRow::new(alloc),
-            stamps: SlidingRow::new(alloc),
+            holders: Vec::new(alloc),
+            stamps: Vec::new(alloc),
         }
     }
 
@@ -78,8 +78,9 @@ impl<A: Allocator + Copy> GuidGroup<A> {
     pub(crate) fn try_copy(&self) -> Result<GuidGroup<A>, AllocError>
         ensures { IfOk result (λ copy. copy ≡ self.now) }
     {
-        let holders = self.holders.try_copy()?;
-        let stamps = self.stamps.try_copy()?;
+        let alloc = *self.holders.allocator();
+        let holders = Vec::from_slice(alloc, self.holders.as_slice())?;
+        let stamps = Vec::from_slice(alloc, self.stamps.as_slice())?;
         Ok(GuidGroup {
             guid: self.guid,
             holders,
@@ -125,10 +126,10 @@ impl<A: Allocator + Copy> GuidGroup<A> {
         ensures err { OnErr result (self.new ≡ self.old) }
     {
         let at = count_less_than_new(self.holders.as_slice(), handle);
-        self.stamps.reserve()?;
-        self.holders.reserve()?;
-        self.holders.insert(at, handle);
-        self.stamps.insert(at, stamp);
+        make_short_room(&mut self.stamps)?;
+        make_short_room(&mut self.holders)?;
+        insert_with_room(&mut self.holders, at, handle);
+        insert_with_room(&mut self.stamps, at, stamp);
         Ok(())
     }
 
@@ -152,7 +153,7 @@ impl<A: Allocator + Copy> GuidGroup<A> {
     {
         let at = count_less(self.holders.as_slice(), handle);
         if is_number_at(self.holders.as_slice(), at, handle) {
-            self.stamps.set(at, stamp);
+            self.stamps[at] = stamp;
         }
     }
 }

@@ -13,7 +13,6 @@ mod room;
 mod rows;
 mod searches;
 mod short_list;
-mod sliding_row;
 
 pub use guids::is_same_guid;
 pub use handles::{Handles, MAX_HANDLES, MAX_IN_TABLE, MAX_INSTALLED, has_guid_twice};

@@ -24,6 +24,25 @@ pub(crate) fn make_room<T: Drop, A: Allocator>(items: &mut Vec<T, A>) -> Result<
     items.reserve_exact(items_added(items.len()))
 }
 
+/// How many numbers more a full short list gets room for at least: four at first, so that many short
+/// lists take little, then 12.
+fn numbers_added(len: usize) -> usize
+    ensures { 0 < result }
+{
+    if len == 0 { 4 } else { 12 }
+}
+
+/// Makes room for one more number in a list that is mostly short, if there is none.
+pub(crate) fn make_short_room<A: Allocator>(numbers: &mut Vec<u64, A>) -> Result<(), AllocError>
+    ensures items { numbers.new.items ≡ numbers.old.items }
+    ensures room { OnOk result (vec_len numbers.new < vec_capacity numbers.new) }
+{
+    if numbers.len() < numbers.capacity() {
+        return Ok(());
+    }
+    numbers.reserve(numbers_added(numbers.len()))
+}
+
 /// Makes room for one more value, if there is none.
 pub(crate) fn make_slot<T: Drop, A: Allocator>(slab: &mut Slab<T, A>) -> Result<(), AllocError>
     ensures room { OnOk result (HasRoomFor slab.new 1) }

@@ -1,167 +1,82 @@
 //! The live handles.
-ghost use Rattle.std.specs.Prelude.{◌≡◌, ◌<◌, ◌≤◌, ◌==◌, ◌++◌, ℕ, [], ◌∷◌, not, length, nat_lt, true, false, is_some, None, IfOk, OnOk, OnErr, IfSome, IfNone};
+ghost use Rattle.std.specs.Prelude.{◌≡◌, ◌≢◌, ◌<◌, ◌≤◌, ◌==◌, ◌++◌, ℕ, [], ◌∷◌, not, length, is_some, true, false, None, Some, IfOk, OnOk, OnErr, IfSome, IfNone, option_map, slice_get};
 ghost use Rattle.std.specs.List.{find, filter, AllByRecursion};
 ghost use Rattle.guid_handles.specs.HandleTables.{has_number};
-ghost use Rattle.guid_handles.specs.Sorting.{Ascending, place};
-ghost use Rattle.guid_handles.specs.Indexes.{lives, row_numbers, keys_on, is_row_of, filed_number, filed_numbers, is_filed_at, rows_in, ChangesKeys};
+ghost use Rattle.guid_handles.specs.Places.{has_place};
+ghost use Rattle.guid_handles.specs.Sorting.{Ascending};
+ghost use Rattle.guid_handles.specs.Indexes.{AreBeside, lives, row_numbers, keys_on, is_row_of, keys_of, number_beside, row_at, ChangesKeys, ChangesRow};
 ghost use Rattle.guid_handles.specs.NumberLists.{list_of, with_last, without};
 ghost use Rattle.guid_handles.specs.MadeOn.{ChangesMade, numbers_made_on};
 
 use crate::handle_row::HandleRow;
 use crate::number_lists::NumberLists;
 use crate::records::LiveHandle;
-use crate::room::make_room;
-use crate::searches::remove_number;
-use crate::sliding_row::SlidingRow;
+use crate::room::{make_room, make_slot};
+use crate::searches::{count_less, is_number_at};
+use slab::Slab;
 use std::alloc::{AllocError, Allocator};
 use std::marker::Model;
 
-/// How many rows of handles that are gone stay, beside as many as there are live handles.
-const MAX_GONE: usize = 32;
-
-/// The live handles by ascending number, and beside them their numbers alone and those that drivers
-/// made. The row of a handle that goes stays until most rows are such rows.
+/// The live handles: their numbers, ascending, beside each the place of its row in a slab, and those
+/// that drivers made.
 #[derive(Drop)]
 pub(crate) struct Rows<A: Allocator> {
-    rows: Vec<HandleRow<A>, A>,
-    numbers: SlidingRow<u64, A>,
+    numbers: Vec<u64, A>,
+    places: Vec<usize, A>,
+    rows: Slab<HandleRow<A>, A>,
     // Those that drivers made, by the controllers of these.
     made: NumberLists<A>,
 }
 
 impl<A: Allocator> Model for Rows<A> {
     ghost use Rattle.std.specs.Prelude.{List};
-    ghost use Rattle.guid_handles.specs.Indexes.{Row, rows_in};
-    ghost use Rattle.guid_handles.specs.MadeOn.{AreRowsNoted};
+    ghost use Rattle.guid_handles.specs.Indexes.{Row, rows_at};
+    ghost use Rattle.guid_handles.specs.MadeOn.{AreRows};
 
     ghost Value = { List Row };
 
-    ghost view = { λ r. rows_in r.rows.items };
+    ghost view = { λ r. rows_at r.rows.slots r.places.items };
 
-    ghost invariant = { λ r. AreRowsNoted r.rows.items r.numbers.items r.made };
+    ghost invariant = { λ r. AreRows r.numbers.items r.places.items r.rows.slots r.made };
 }
 
-/// How many rows have lower numbers.
-fn count_lower<A: Allocator + Copy>(rows: &[HandleRow<A>], number: u64) -> usize
-    requires { Ascending (λ a b. a < b) (filed_numbers rows.now) }
-    ensures place { result ≡ place (λ f. nat_lt (filed_number f) number) rows.now }
-    ensures bound { result ≤ length rows.now }
-{
-    rows.partition_point(
-        |r: &HandleRow<A>| -> bool
-            ensures { result ≡ nat_lt (filed_number r.now) number }
-        { r.number() < number },
-    )
-}
-
-/// Where the row of a handle is, if none between it and the last one is missing.
-fn likely_place<A: Allocator + Copy>(rows: &[HandleRow<A>], number: u64) -> usize {
-    match rows.last() {
+/// Where a number is, if none between it and the last one is missing.
+fn likely_index(numbers: &[u64], number: u64) -> usize {
+    match numbers.last() {
         Some(last) => {
-            let behind = last.number().wrapping_sub(number);
-            (rows.len() as u64).wrapping_sub(1).wrapping_sub(behind) as usize
+            let behind = last.wrapping_sub(number);
+            (numbers.len() as u64).wrapping_sub(1).wrapping_sub(behind) as usize
         }
         None => 0,
     }
 }
 
-/// Whether the row of a handle that is not gone is at a place.
-fn is_row_at<A: Allocator + Copy>(rows: &[HandleRow<A>], at: usize, number: u64) -> bool
-    ensures { result ≡ is_filed_at number rows.now at }
+/// Where a number is among ascending ones.
+fn index_of(numbers: &[u64], number: u64) -> Option<usize>
+    requires { Ascending (λ a b. a < b) numbers.now }
+    ensures there { IfSome result (λ at. slice_get numbers.now at ≡ Some number) }
+    ensures none { IfNone result (has_place numbers.now number ≡ false) }
 {
-    match rows.get(at) {
-        Some(row) => row.is_of(number),
-        None => false,
+    let likely = likely_index(numbers, number);
+    if is_number_at(numbers, likely, number) {
+        return Some(likely);
     }
-}
-
-/// The place of the row of a handle, found by halving.
-fn halved_place<A: Allocator + Copy>(rows: &[HandleRow<A>], number: u64) -> Option<usize>
-    requires { Ascending (λ a b. a < b) (filed_numbers rows.now) }
-    ensures there { IfSome result (λ at. is_filed_at number rows.now at ≡ true) }
-    ensures none { IfNone result (find (is_row_of number) (rows_in rows.now) ≡ None) }
-{
-    let at = count_lower(rows, number);
-    if is_row_at(rows, at, number) {
+    let at = count_less(numbers, number);
+    if is_number_at(numbers, at, number) {
         Some(at)
     } else {
         None
     }
 }
 
-/// The place of the row of a handle.
-fn place_of<A: Allocator + Copy>(rows: &[HandleRow<A>], number: u64) -> Option<usize>
-    requires { Ascending (λ a b. a < b) (filed_numbers rows.now) }
-    ensures there { IfSome result (λ at. is_filed_at number rows.now at ≡ true) }
-    ensures none { IfNone result (find (is_row_of number) (rows_in rows.now) ≡ None) }
+/// The place beside a number.
+fn place_of(numbers: &[u64], places: &[usize], number: u64) -> Option<usize>
+    requires { AreBeside numbers.now places.now }
+    ensures { result ≡ number_beside numbers.now places.now number }
 {
-    let likely = likely_place(rows, number);
-    if is_row_at(rows, likely, number) {
-        Some(likely)
-    } else {
-        halved_place(rows, number)
-    }
-}
-
-/// Whether the last row, if there is one, has a lower number.
-fn is_above<A: Allocator + Copy>(rows: &[HandleRow<A>], number: u64) -> bool
-    requires { Ascending (λ a b. a < b) (filed_numbers rows.now) }
-    ensures { result ≡ true → AllByRecursion (λ n. n < number) (filed_numbers rows.now) }
-{
-    match rows.last() {
-        Some(last) => last.number() < number,
-        None => true,
-    }
-}
-
-/// The same rows, in memory of their own.
-fn copy_rows<A: Allocator + Copy>(
-    alloc: A,
-    rows: &[HandleRow<A>],
-) -> Result<Vec<HandleRow<A>, A>, AllocError>
-    ensures { IfOk result (λ copies. copies.items ≡ rows.now) }
-{
-    let mut copies = Vec::with_capacity(alloc, rows.len())?;
-    for row in rows {
-        row.push_copy(&mut copies)?;
-    }
-    Ok(copies)
-}
-
-/// Gives up the rows of handles that are gone.
-fn drop_gone<A: Allocator + Copy>(rows: &mut Vec<HandleRow<A>, A>)
-    ensures { rows.new.items ≡ filter (λ f. not f.gone) rows.old.items }
-{
-    rows.retain(
-        |r: &HandleRow<A>| -> bool
-            ensures { result ≡ not r.now.gone }
-        { !r.is_gone() },
-    );
-}
-
-/// Gives up rows of handles that are gone where one of them has a number that is not below that of a
-/// new handle.
-fn clear_above<A: Allocator + Copy>(rows: &mut Vec<HandleRow<A>, A>, number: u64)
-    requires filed { Ascending (λ a b. a < b) (filed_numbers rows.old.items) }
-    requires live { AllByRecursion (λ n. n < number) (row_numbers (rows_in rows.old.items)) }
-    ensures same { rows_in rows.new.items ≡ rows_in rows.old.items }
-    ensures filed { Ascending (λ a b. a < b) (filed_numbers rows.new.items) }
-    ensures below { AllByRecursion (λ n. n < number) (filed_numbers rows.new.items) }
-{
-    if is_above(rows.as_slice(), number) {
-        return;
-    }
-    drop_gone(rows);
-}
-
-/// Gives up the rows of handles that are gone where these are more than others by far.
-fn tidy<A: Allocator + Copy>(rows: &mut Vec<HandleRow<A>, A>, live: usize)
-    requires { Ascending (λ a b. a < b) (filed_numbers rows.old.items) }
-    ensures same { rows_in rows.new.items ≡ rows_in rows.old.items }
-    ensures filed { Ascending (λ a b. a < b) (filed_numbers rows.new.items) }
-{
-    if rows.len() / 2 > live.saturating_add(MAX_GONE / 2) {
-        drop_gone(rows);
+    match index_of(numbers, number) {
+        Some(at) => Some(places[at]),
+        None => None,
     }
 }
 
@@ -189,14 +104,60 @@ fn forget_made<A: Allocator + Copy>(made: &mut NumberLists<A>, live: LiveHandle)
     }
 }
 
+/// Removes the row at a place, and returns its handle.
+fn take_row<A: Allocator + Copy>(rows: &mut Slab<HandleRow<A>, A>, place: usize) -> LiveHandle
+    requires { is_some (row_at rows.old.slots place) ≡ true }
+    ensures live { option_map (λ r. r.live) (row_at rows.old.slots place) ≡ Some result }
+    ensures others { (p : ℕ) → p ≢ place
+        → row_at rows.new.slots p ≡ row_at rows.old.slots p }
+{
+    let row = rows.remove(place);
+    row.live()
+}
+
+/// Adds a key behind the others in the row at a place. On an `Err` each row is as it was.
+fn push_key_at<A: Allocator + Copy>(
+    rows: &mut Slab<HandleRow<A>, A>,
+    place: usize,
+    key: usize,
+) -> Result<(), AllocError>
+    requires { is_some (row_at rows.old.slots place) ≡ true }
+    ensures ok { OnOk result
+        (ChangesRow place (λ ks. ks ++ key ∷ []) rows.old.slots rows.new.slots) }
+    ensures err { OnErr result
+        ((p : ℕ) → row_at rows.new.slots p ≡ row_at rows.old.slots p) }
+{
+    match rows.get_mut(place) {
+        Some(row) => row.push_key(key),
+        None => unreachable!(),
+    }
+}
+
+/// Removes a key of the row at a place, and returns whether others are left.
+fn remove_key_at<A: Allocator + Copy>(
+    rows: &mut Slab<HandleRow<A>, A>,
+    place: usize,
+    key: usize,
+) -> bool
+    requires { is_some (row_at rows.old.slots place) ≡ true }
+    ensures keys { ChangesRow place (filter (λ k. not (k == key))) rows.old.slots rows.new.slots }
+    ensures left { result ≡ not (length (keys_of (row_at rows.new.slots place)) == 0) }
+{
+    match rows.get_mut(place) {
+        Some(row) => row.remove_key(key),
+        None => unreachable!(),
+    }
+}
+
 impl<A: Allocator + Copy> Rows<A> {
     /// No handles. This takes no memory.
     pub(crate) fn new(alloc: A) -> Rows<A>
         ensures { result ≡ [] }
     {
         Rows {
-            rows: Vec::new(alloc),
-            numbers: SlidingRow::new(alloc),
+            numbers: Vec::new(alloc),
+            places: Vec::new(alloc),
+            rows: Slab::new(alloc),
             made: NumberLists::new(alloc),
         }
     }
@@ -206,12 +167,14 @@ impl<A: Allocator + Copy> Rows<A> {
         ensures { IfOk result (λ copy. copy ≡ self.now) }
     {
         let alloc = *self.numbers.allocator();
-        let numbers = self.numbers.try_copy()?;
+        let numbers = Vec::from_slice(alloc, self.numbers.as_slice())?;
+        let places = Vec::from_slice(alloc, self.places.as_slice())?;
         let made = self.made.try_copy()?;
-        let rows = copy_rows(alloc, self.rows.as_slice())?;
+        let rows = self.rows.clone()?;
         Ok(Rows {
-            rows,
             numbers,
+            places,
+            rows,
             made,
         })
     }
@@ -230,12 +193,22 @@ impl<A: Allocator + Copy> Rows<A> {
         self.made.of(controller)
     }
 
+    /// The row of a handle.
+    fn row(&self, number: u64) -> Option<&HandleRow<A>>
+        ensures { option_map (λ r. r.now) result ≡ find (is_row_of number) self.now }
+    {
+        match place_of(self.numbers.as_slice(), self.places.as_slice(), number) {
+            Some(place) => self.rows.get(place),
+            None => None,
+        }
+    }
+
     /// The handle of a number.
     pub(crate) fn find(&self, number: u64) -> Option<LiveHandle>
         ensures { result ≡ find (has_number number) (lives self.now) }
     {
-        match place_of(self.rows.as_slice(), number) {
-            Some(at) => Some(self.rows[at].live()),
+        match self.row(number) {
+            Some(row) => Some(row.live()),
             None => None,
         }
     }
@@ -244,8 +217,8 @@ impl<A: Allocator + Copy> Rows<A> {
     pub(crate) fn keys(&self, number: u64) -> &[usize]
         ensures { result.now ≡ keys_on self.now number }
     {
-        match place_of(self.rows.as_slice(), number) {
-            Some(at) => self.rows[at].keys(),
+        match self.row(number) {
+            Some(row) => row.keys(),
             None => &[],
         }
     }
@@ -257,13 +230,14 @@ impl<A: Allocator + Copy> Rows<A> {
         ensures ok { OnOk result (self.new ≡ self.old ++ record { live = live; keys = [] } ∷ []) }
         ensures err { OnErr result (self.new ≡ self.old) }
     {
-        clear_above(&mut self.rows, live.number);
-        make_room(&mut self.rows)?;
-        self.numbers.reserve()?;
+        make_room(&mut self.numbers)?;
+        make_room(&mut self.places)?;
+        make_slot(&mut self.rows)?;
         let row = HandleRow::new(*self.numbers.allocator(), live)?;
         note_made(&mut self.made, live)?;
-        self.numbers.push(live.number);
-        self.rows.push_reserved(row);
+        let place = self.rows.insert_reserved(row);
+        self.places.push_reserved(place);
+        self.numbers.push_reserved(live.number);
         Ok(())
     }
 
@@ -271,12 +245,11 @@ impl<A: Allocator + Copy> Rows<A> {
     pub(crate) fn remove(&mut self, number: u64)
         ensures { self.new ≡ filter (λ r. not (is_row_of number r)) self.old }
     {
-        if let Some(at) = place_of(self.rows.as_slice(), number) {
-            let live = self.rows[at].live();
-            self.rows[at].mark_gone();
-            remove_number(&mut self.numbers, number);
+        if let Some(at) = index_of(self.numbers.as_slice(), number) {
+            self.numbers.remove(at);
+            let place = self.places.remove(at);
+            let live = take_row(&mut self.rows, place);
             forget_made(&mut self.made, live);
-            tidy(&mut self.rows, self.numbers.as_slice().len());
         }
     }
 
@@ -286,11 +259,8 @@ impl<A: Allocator + Copy> Rows<A> {
         ensures ok { OnOk result (ChangesKeys number (λ ks. ks ++ key ∷ []) self.old self.new) }
         ensures err { OnErr result (self.new ≡ self.old) }
     {
-        match place_of(self.rows.as_slice(), number) {
-            Some(at) => {
-                self.rows[at].push_key(key)?;
-                Ok(())
-            }
+        match place_of(self.numbers.as_slice(), self.places.as_slice(), number) {
+            Some(place) => push_key_at(&mut self.rows, place, key),
             None => unreachable!(),
         }
     }
@@ -300,8 +270,8 @@ impl<A: Allocator + Copy> Rows<A> {
         ensures keys { ChangesKeys number (filter (λ k. not (k == key))) self.old self.new }
         ensures left { result ≡ not (length (keys_on self.new number) == 0) }
     {
-        match place_of(self.rows.as_slice(), number) {
-            Some(at) => self.rows[at].remove_key(key),
+        match place_of(self.numbers.as_slice(), self.places.as_slice(), number) {
+            Some(place) => remove_key_at(&mut self.rows, place, key),
             None => false,
         }
     }

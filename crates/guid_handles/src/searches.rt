@@ -7,7 +7,6 @@ ghost use Rattle.guid_handles.specs.Slots.{at_key, at_keys, is_key_of};
 
 use crate::guids::is_same_guid;
 use crate::records::{Interface, Record};
-use crate::sliding_row::SlidingRow;
 use slab::Slab;
 use std::alloc::Allocator;
 use uuid::Uuid;
@@ -56,17 +55,6 @@ pub(crate) fn is_number_at(numbers: &[u64], at: usize, number: u64) -> bool
     match numbers.get(at) {
         Some(n) => *n == number,
         None => false,
-    }
-}
-
-/// Removes a number from ascending ones.
-pub(crate) fn remove_number<A: Allocator>(numbers: &mut SlidingRow<u64, A>, number: u64)
-    requires { Ascending (λ a b. a < b) numbers.old.items }
-    ensures { numbers.new.items ≡ filter (λ n. not (n == number)) numbers.old.items }
-{
-    let at = count_less(numbers.as_slice(), number);
-    if is_number_at(numbers.as_slice(), at, number) {
-        numbers.remove(at);
     }
 }
 

@@ -4,7 +4,7 @@ use Rattle.guid_handles.specs.HandleTables.{same_guid}
 use Rattle.guid_handles.specs.Indexes.{Group, HaveSameStamps, SetsStamp, stamp_at}
 use Rattle.guid_handles.proofs.GuidOrder.{same_guid-true}
 use Rattle.guid_handles.proofs.Grouped.{is_same}
-use Rattle.guid_handles.proofs.SlidRows.{on_err}
+use Rattle.guid_handles.proofs.Refused.{on_err}
 use Rattle.guid_handles.proofs.handles.file_key.Goals as goal
 
 -- a stamp that was added goes again

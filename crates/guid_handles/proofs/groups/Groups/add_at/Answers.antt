@@ -2,7 +2,7 @@ use Rattle.std.proofs.Common.{◌≡◌, subst, sym, ◌∙◌, refl, Some}
 use Rattle.std.proofs.lemmas.Bool.{eq-eqb}
 use Rattle.guid_handles.specs.Indexes.{AreGroups, stamp_in}
 use Rattle.guid_handles.proofs.Grouped.{got, groups_set, held_by, stamp_changed, stamp_there, put_back}
-use Rattle.guid_handles.proofs.SlidRows.{on_err}
+use Rattle.guid_handles.proofs.Refused.{on_err}
 use Rattle.guid_handles.proofs.groups.Groups.add_at.Goals as goal
 
 pub add-requires : goal.add-requires

@@ -2,7 +2,7 @@ use Rattle.std.proofs.Common.{◌≡◌, ap, refl, ◌∙◌, Some}
 use Rattle.std.proofs.lemmas.Bool.{eq-eqb}
 use Rattle.guid_handles.specs.Indexes.{Group, stamp_in}
 use Rattle.guid_handles.proofs.Grouped.{groups_insert, held_by, stamp_insert}
-use Rattle.guid_handles.proofs.SlidRows.{on_err}
+use Rattle.guid_handles.proofs.Refused.{on_err}
 use Rattle.guid_handles.proofs.groups.Groups.make_at.Goals as goal
 
 pub add-requires : goal.add-requires

@@ -1,6 +1,5 @@
-use Rattle.std.proofs.Common.{◌∙◌, ap, is_some, refl, sym}
+use Rattle.std.proofs.Common.{◌∙◌, refl, sym}
 use Rattle.guid_handles.proofs.Beside.{absent_same, beside_remove, remove_beside, kept_there, none_beside_at}
-use Rattle.guid_handles.proofs.Grouped.{one_there}
 use Rattle.guid_handles.proofs.guid_group.GuidGroup.remove.Goals as goal
 
 pub invariant_of-self : goal.invariant_of-self
@@ -16,14 +15,6 @@ returns-else-is_number_at-clause-stamps g c = λ n.
     let place = rw c.as_slice.ensures.value at c.count_less-at.ensures.place in
     let there = rw c.as_slice-2.ensures.value at (sym c.is_number_at.ensures ∙ c.if-is_number_at.false) in
     rw (← c.self.view_is) (absent_same c.args.handle n _ _ (none_beside_at c.args.handle _ _ _ c.self.invariant place there))
-
-pub remove-requires : goal.remove-requires
-remove-requires g c = let there = rw c.as_slice-2.ensures.value at (sym c.is_number_at.ensures ∙ c.if-is_number_at.true) in one_there _ _ (ap is_some (kept_there c.args.handle _ there))
-
-pub remove-requires-then-is_number_at : goal.remove-requires-then-is_number_at
-remove-requires-then-is_number_at g c =
-    let there = rw c.as_slice-2.ensures.value at (sym c.is_number_at.ensures ∙ c.if-is_number_at.true) in
-    rw (← c.self.invariant.even) (one_there _ _ (ap is_some (kept_there c.args.handle _ there)))
 
 pub returns-then-is_number_at-clause-guid : goal.returns-then-is_number_at-clause-guid
 returns-then-is_number_at-clause-guid g c = rw (← c.self.view_is) refl

@@ -1,20 +1,14 @@
 use Rattle.std.proofs.Common.{◌≡◌, false, true, ◌∙◌, ap, is_some, sym}
 use Rattle.guid_handles.proofs.Beside.{beside_set, set_beside, kept_there, none_beside_at}
-use Rattle.guid_handles.proofs.Grouped.{one_there}
 use Rattle.guid_handles.proofs.guid_group.GuidGroup.restamp.Goals as goal
 
-pub set-requires : goal.set-requires
-set-requires g c =
-    let there = rw c.as_slice-2.ensures.value at (sym c.is_number_at.ensures ∙ c.if-is_number_at.true) in
-    rw (← c.self.invariant.even) (one_there _ _ (ap is_some (kept_there c.args.handle _ there)))
-
 pub invariant_of-self : goal.invariant_of-self
-invariant_of-self g c = rw c.set.ensures (set_beside _ _ _ _ c.self.invariant)
+invariant_of-self g c = set_beside _ _ _ _ c.self.invariant
 
 pub returns-then-is_number_at-clause-stamps : goal.returns-then-is_number_at-clause-stamps
 returns-then-is_number_at-clause-stamps g c = λ n.
     let there = rw c.as_slice-2.ensures.value at (sym c.is_number_at.ensures ∙ c.if-is_number_at.true) in
-    rw (← c.self.view_is, c.set.ensures) (beside_set _ _ _ c.args.handle c.args.stamp n c.self.invariant (kept_there c.args.handle _ there))
+    rw (← c.self.view_is) (beside_set _ _ _ c.args.handle c.args.stamp n c.self.invariant (kept_there c.args.handle _ there))
 
 pub returns-else-is_number_at-clause-stamps : goal.returns-else-is_number_at-clause-stamps
 returns-else-is_number_at-clause-stamps g c = λ n.

@@ -4,7 +4,7 @@ use Rattle.guid_handles.specs.HandleChanges.{stamped, with_interfaces}
 use Rattle.guid_handles.proofs.Indexed.{first_of_guid}
 use Rattle.guid_handles.proofs.Stored.{back_again, newest_one, still_absent}
 use Rattle.std.proofs.lemmas.Result.{IfOk-from_err}
-use Rattle.guid_handles.proofs.SlidRows.{on_err}
+use Rattle.guid_handles.proofs.Refused.{on_err}
 use Rattle.guid_handles.proofs.handles.Handles.+install_on.Goals as goal
 
 one_then_others : (h : ℕ) (p : List ℕ × ℕ) (ps : List (List ℕ × ℕ)) (t : HandleTable) → with_interfaces h ps (with_interfaces h (p ∷ []) t) ≡ with_interfaces h (p ∷ ps) t

@@ -1,7 +1,7 @@
 use Rattle.guid_handles.proofs.Stored.{absent_on_new, lower_numbers, new_is_live, none_is_on, unmade_again}
 use Rattle.std.proofs.Common.{arith, ap, ◌∙◌}
 use Rattle.std.proofs.lemmas.Result.{IfOk-from_err}
-use Rattle.guid_handles.proofs.SlidRows.{on_err}
+use Rattle.guid_handles.proofs.Refused.{on_err}
 use Rattle.guid_handles.specs.HandleChanges.{with_interfaces}
 use Rattle.guid_handles.proofs.handles.Handles.install_on_new.Goals as goal
 

@@ -3,7 +3,7 @@ use Rattle.std.proofs.lemmas.Result.{IfOk-from_err}
 use Rattle.slab.specs.Slab.{Slab}
 use Rattle.guid_handles.specs.declared.records.Record.{Record}
 use Rattle.guid_handles.proofs.Stored.{live_row, stored_more, stored_same, unstamped}
-use Rattle.guid_handles.proofs.SlidRows.{on_err}
+use Rattle.guid_handles.proofs.Refused.{on_err}
 use Rattle.guid_handles.proofs.handles.Handles.install_one.Goals as goal
 
 pub file_key-requires-clause-live : goal.file_key-requires-clause-live

@@ -1,7 +1,7 @@
 use Rattle.std.proofs.Common.{refl, arith}
 use Rattle.guid_handles.proofs.Stored.{numbers_below, stored_handle}
 use Rattle.std.proofs.lemmas.Result.{IfOk-from_err}
-use Rattle.guid_handles.proofs.SlidRows.{on_err}
+use Rattle.guid_handles.proofs.Refused.{on_err}
 use Rattle.guid_handles.proofs.handles.Handles.make_bare.Goals as goal
 
 pub push-requires : goal.push-requires

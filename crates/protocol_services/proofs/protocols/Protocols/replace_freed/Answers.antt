@@ -1,6 +1,6 @@
 use Rattle.std.proofs.Common.{refl, ap, ◌∙◌}
 use Rattle.std.proofs.lemmas.Result.{IfOk-from_err}
-use Rattle.guid_handles.proofs.SlidRows.{on_err}
+use Rattle.guid_handles.proofs.Refused.{on_err}
 use Rattle.protocol_services.specs.Saved.{put_back}
 use Rattle.protocol_services.proofs.Raised.{stays_raised}
 use Rattle.protocol_services.proofs.protocols.Protocols.replace_freed.Goals as goal
