@@ -140,17 +140,14 @@ export class Room {
     this.lines = new Region(module, lineBytes);
     this.line = module.take(MAX_LINE_LENGTH);
     this.text = { at: module.take(WASM_PAGE), room: WASM_PAGE };
-    this.indexes = [];
-    this.places = [];
+    this.entryRoom = 0;
   }
 
-  // Where entries of a memory map are laid; their numbers and places are kept as BigInts.
+  // Where entries of a memory map are laid.
   entriesAt(count) {
-    if (this.indexes.length < count) {
-      const room = 2 * count;
-      this.entries = this.module.take(ENTRY * room);
-      this.indexes = Array.from({ length: room }, (_, index) => BigInt(index));
-      this.places = this.indexes.map((index) => BigInt(this.entries) + BigInt(ENTRY) * index);
+    if (this.entryRoom < count) {
+      this.entryRoom = 2 * count;
+      this.entries = this.module.take(ENTRY * this.entryRoom);
     }
     return this.entries;
   }
@@ -213,7 +210,7 @@ export class Core {
 
   /** How many entries the memory map has. */
   descriptors() {
-    return Number(this.room.module.calls.PlaygroundDescriptors(this.pointer));
+    return Number(this.room.module.calls.PlaygroundMap(this.pointer, BigInt(UNIT), 0n));
   }
 
   /** Reads the memory map, and returns whether it is another one than when it was last read. */
@@ -222,7 +219,7 @@ export class Core {
     const { calls, memory } = room.module;
     const count = this.descriptors();
     const at = room.entriesAt(count);
-    for (let index = 0; index < count; index += 1) calls.PlaygroundDescriptor(this.pointer, room.indexes[index], room.places[index]);
+    calls.PlaygroundMap(this.pointer, BigInt(at), BigInt(count));
     const words = new Uint32Array(memory.buffer, at, ENTRY_WORDS * count);
     if (this.words?.length === words.length && areSame(this.words, words)) return false;
     this.words = words.slice();
@@ -235,8 +232,8 @@ export class Core {
     const { calls, memory } = room.module;
     const index = this.indexOf(address);
     if (index < 0 || ENTRY_WORDS * this.descriptors() !== this.words.length) return false;
-    calls.PlaygroundDescriptor(this.pointer, room.indexes[index], room.places[index]);
-    const entry = new Uint32Array(memory.buffer, Number(room.places[index]), ENTRY_WORDS);
+    calls.PlaygroundDescriptor(this.pointer, BigInt(index), BigInt(room.entries));
+    const entry = new Uint32Array(memory.buffer, room.entries, ENTRY_WORDS);
     return areSame(this.words.subarray(ENTRY_WORDS * index, ENTRY_WORDS * (index + 1)), entry);
   }
 

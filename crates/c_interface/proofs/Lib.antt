@@ -3,6 +3,7 @@ mod BufferLaws
 mod BufferTexts
 mod FoundEntries
 mod FoundRuns
+mod LaidEntries
 mod ListedItems
 mod LongLists
 mod LongRemovals

@@ -1,12 +1,14 @@
 //! The memory map without a call, and the check of a certificate block.
-ghost use Rattle.std.specs.Prelude.{◌≡◌, length};
+ghost use Rattle.std.specs.Prelude.{◌≡◌, ◌<◌, length, map};
 ghost use Rattle.page_ranges.specs.MemoryMap.{memory_map};
-ghost use Rattle.c_interface.specs.Checks.{ChecksBlock, ReturnsEntry};
+ghost use Rattle.page_ranges.specs.MemoryTypes.{page_count};
+ghost use Rattle.c_interface.specs.Buffers.{front_filled};
+ghost use Rattle.c_interface.specs.Checks.{entry_in_c, ChecksBlock, ReturnsEntry};
 ghost use Rattle.c_interface.specs.Items.{map_entry};
 
 use crate::efi_core::EfiCore;
 use certificate_blocks::{BlockFault, judge_block};
-use page_ranges::{PAGE_SIZE, Status};
+use page_ranges::{Descriptor, PAGE_SIZE, Status};
 use std::alloc::Allocator;
 
 /// An entry of the memory map: the fields of EFI_MEMORY_DESCRIPTOR but VirtualStart, which is
@@ -19,6 +21,19 @@ pub struct MapEntry {
     pub physical_start: u64,
     pub number_of_pages: u64,
     pub attribute: u64,
+}
+
+/// An entry as C has it.
+fn entry_in_c(entry: &Descriptor) -> MapEntry
+    requires { entry.now.first < page_count }
+    ensures { result ≡ entry_in_c entry.now }
+{
+    MapEntry {
+        mtype: entry.mtype.number(),
+        physical_start: entry.first * PAGE_SIZE,
+        number_of_pages: entry.pages,
+        attribute: entry.attributes,
+    }
 }
 
 impl<A: Allocator + Copy> EfiCore<A> {
@@ -39,16 +54,30 @@ impl<A: Allocator + Copy> EfiCore<A> {
         let _count = self.core.descriptors();
         match self.core.descriptor(index) {
             Some(found) => {
-                *entry = MapEntry {
-                    mtype: found.mtype.number(),
-                    physical_start: found.first * PAGE_SIZE,
-                    number_of_pages: found.pages,
-                    attribute: found.attributes,
-                };
+                *entry = entry_in_c(&found);
                 Status::Success.number()
             }
             None => Status::NotFound.number(),
         }
+    }
+
+    /// How many entries the memory map has. The first of them are copied into `entries`, as many as it has room
+    /// for.
+    pub fn map(&self, entries: &mut [MapEntry]) -> usize
+        ensures count { result ≡ length (memory_map self.now.core.state.parts.book.memory) }
+        ensures entries { entries.new ≡ front_filled
+            (map entry_in_c (memory_map self.now.core.state.parts.book.memory)) entries.old }
+    {
+        let count = self.core.descriptors();
+        let mut used = 0;
+        for found in self.core.map_entries() {
+            if used == entries.len() {
+                return count;
+            }
+            entries[used] = entry_in_c(&found);
+            used += 1;
+        }
+        count
     }
 }
 

@@ -1,7 +1,8 @@
 //! The memory map, without a call.
-ghost use Rattle.std.specs.Prelude.{◌≡◌, length};
+ghost use Rattle.std.specs.Prelude.{◌≡◌, length, map};
 ghost use Rattle.page_ranges.specs.MemoryMap.{memory_map};
-ghost use Rattle.c_interface.specs.Checks.{ReturnsEntry};
+ghost use Rattle.c_interface.specs.Buffers.{front_filled};
+ghost use Rattle.c_interface.specs.Checks.{entry_in_c, ReturnsEntry};
 ghost use Rattle.c_interface.specs.Items.{map_entry};
 ghost use Rattle.c_interface.specs.Versions.{version};
 
@@ -16,13 +17,15 @@ pub extern "C" fn PlaygroundVersion() -> u32
     VERSION
 }
 
-/// How many entries the memory map has.
+/// How many entries the memory map has. The first of them are copied into `entries`, as many as it has room for.
 #[unsafe(no_mangle)]
-pub extern "C" fn PlaygroundDescriptors(core: &mut Rafkudin) -> usize
+pub extern "C" fn PlaygroundMap(core: &mut Rafkudin, entries: &mut [MapEntry]) -> usize
     ensures count { result ≡ length (memory_map core.old.core.core.state.parts.book.memory) }
+    ensures entries { entries.new ≡ front_filled
+        (map entry_in_c (memory_map core.old.core.core.state.parts.book.memory)) entries.old }
     ensures kept { core.new.core ≡ core.old.core }
 {
-    core.held().descriptors()
+    core.held().map(entries)
 }
 
 /// The entry of the memory map at an index, by ascending address.
