@@ -29,6 +29,7 @@ fn goes_on(entry: &Descriptor, run: &Run) -> bool
 /// Writes the records of the entries that are whole once some runs have come behind an entry, into the
 /// bytes of a buffer from a place on. Returns the place behind them, and the entry that is not whole
 /// yet.
+#[inline(always)]
 fn write_whole(
     buffer: &mut [u8],
     place: usize,
