@@ -44,7 +44,7 @@ run_proper S old (c ∷ calls) [] new s run = absurd run
 
 -- there is nothing in the first lists
 first_proper : AreProperLists no_lists
-first_proper = record { table = record { ascending = tt; given = tt; limit = omega arith; places = (omega arith, omega arith); on_live = tt }; limit = omega arith; places = refl; guids = tt; names = tt; holders = tt }
+first_proper = record { table = record { ascending = tt; given = tt; limit = omega arith; on_live = tt }; limit = omega arith; guids = tt; names = tt; holders = tt }
 
 pub proper_after : {A : Type 0} (S : Setting) (placements : ℕ) (certifies : Bool) (machine : MachineValue) (calls : List (Call A)) (replies : List (Reply A)) (new : State) → CallRunBy S (prepared_state placements certifies machine) calls replies new → AreProperLists new.parts.lists
 proper_after S placements certifies machine calls replies new run = run_proper S (prepared_state placements certifies machine) calls replies new first_proper run

@@ -30,7 +30,6 @@ made_none t = record {
   on_later = tt;
   number = omega arith;
   stamp = omega arith;
-  places = refl;
 }
 
 pub made_further : (s t u : HandleTable) → HasMade s t → HasMade t u → HasMade s u
@@ -44,7 +43,6 @@ made_further s t u a b = record {
       (all_map (λ i. t.last_number < i.handle) (λ i. s.last_number < i.handle) (λ i l. omega (arith, l, a.number)) b.installed b.on_later);
   number = omega (arith, a.number, b.number);
   stamp = omega (arith, a.stamp, b.stamp);
-  places = b.places ∙ a.places;
 }
 
 stamped_later : (last n stamp : ℕ) (pairs : List (List ℕ × ℕ)) → last < n → AllByRecursion (λ i. last < i.handle) (stamped n stamp pairs)
@@ -61,7 +59,6 @@ made_child maker pairs t = record {
   on_later = stamped_later t.last_number (t.last_number + 1) t.last_stamp pairs (omega arith);
   number = omega arith;
   stamp = omega arith;
-  places = refl;
 }
 
 -- the same of the table after a child is made
@@ -137,7 +134,7 @@ module _ (old new : HandleTable) (t : IsHandleTable old) (m : HasMade old new) w
 
   -- what was made goes, and all is as it was
   pub made_back : taken_back_to old.last_number old.last_stamp new ≡ old
-  made_back = rw (those_handles, those_interfaces, m.places) refl
+  made_back = rw (those_handles, those_interfaces) refl
 
   pub those_older : AllByRecursion (λ i. i.stamp ≤ old.last_stamp) old.interfaces → AreOlder old.last_number old.last_stamp new
   those_older a = rw those_interfaces a

@@ -324,5 +324,4 @@ given_made t = record {
   on_later = tt;
   number = omega arith;
   stamp = omega arith;
-  places = refl;
 }

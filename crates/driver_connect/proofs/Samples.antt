@@ -34,7 +34,6 @@ table = record {
   interfaces = on 1 (guid 1) 0x10 1 ∷ on 2 driver_binding 0 2 ∷ on 3 driver_binding 1 3 ∷ on 1 (guid 2) 0x11 4 ∷ on 4 driver_binding 2 5 ∷ [];
   last_number = 4;
   last_stamp = 5;
-  places = 4096;
 }
 
 abbrev held : List OpenRecord

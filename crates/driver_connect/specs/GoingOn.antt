@@ -17,7 +17,6 @@ pub record HasMade (old new : HandleTable) : Type 0 where
   pub on_later : AllByRecursion (λ i. old.last_number < i.handle) installed
   pub number : old.last_number ≤ new.last_number
   pub stamp : old.last_stamp ≤ new.last_stamp
-  pub places : new.places ≡ old.places
 
 -- Behind the items that there were are others.
 pub record HasOpened (old new : List OpenRecord) : Type 0 where

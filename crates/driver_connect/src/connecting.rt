@@ -3,7 +3,7 @@ ghost use Rattle.std.specs.Prelude.{◌≡◌, ◌+◌, ◌<◌, ◌≤◌, ◌^
 ghost use Rattle.driver_connect.specs.Connecting as spec;
 ghost use Rattle.driver_connect.specs.Connecting.{ConnectsAll, ConnectsBy};
 ghost use Rattle.driver_connect.specs.Pending.{ConnectsLevels, ConnectsOne, GrowsWith, first_last};
-ghost use Rattle.guid_handles.specs.HandleChanges.{IsHandleTable, max_in_table};
+ghost use Rattle.guid_handles.specs.HandleChanges.{IsHandleTable, max_handles};
 ghost use Rattle.driver_connect.specs.GoingOn.{GoesOn};
 ghost use Rattle.driver_connect.specs.Room.{HasRoom, Grows};
 ghost use Rattle.driver_connect.specs.Sites.{begun, site_at};
@@ -78,7 +78,7 @@ impl<'a, D: Driver, A: Allocator + Copy> Starter<'a, D, A> {
             pending.old connecting.old pending.new connecting.new) }
         ensures fewer { OnOk result
             (GrowsWith pending.old connecting.old pending.new connecting.new) }
-        ensures limit { OnOk result (length connecting.new.handles.handles ≤ max_in_table) }
+        ensures limit { OnOk result (length connecting.new.handles.handles ≤ max_handles) }
         ensures grows { OnOk result (Grows connecting.old.handles connecting.new.handles) }
         ensures goes_on { GoesOn connecting.old connecting.new }
     {

@@ -1,6 +1,7 @@
 //! How far a connect has come.
-ghost use Rattle.std.specs.Prelude.{◌≡◌, ◌+◌, ◌≤◌, ◌++◌, true, false, map, length, OnOk};
+ghost use Rattle.std.specs.Prelude.{◌≡◌, ◌+◌, ◌<◌, ◌≤◌, ◌++◌, true, false, map, length, OnOk};
 ghost use Rattle.std.specs.List.{list_all, AllByRecursion};
+ghost use Rattle.guid_handles.specs.HandleChanges.{max_handles};
 ghost use Rattle.open_agents.specs.OpenRule.{has_holder};
 ghost use Rattle.driver_connect.specs.Drivers.{is_free};
 ghost use Rattle.driver_connect.specs.Starting as spec;
@@ -103,15 +104,13 @@ fn make_child<A: Allocator + Copy>(
 ) -> Result<(), AllocError>
     requires room { HasRoom handles.old }
     requires child { spec.is_child child.now.items ≡ true }
-    requires places { length handles.old.handles + 1 ≤ handles.old.places }
+    requires places { length handles.old.handles < max_handles }
     ensures handles { OnOk result
         (handles.new ≡ spec.with_child maker child.now.items handles.old) }
     ensures grows { OnOk result (Grows handles.old handles.new) }
     ensures count { OnOk result (length handles.new.handles ≡ length handles.old.handles + 1) }
     ensures made { HasMade handles.old handles.new }
 {
-    // The contract of this look-up says how many places there are at most.
-    let _numbers = handles.all();
     handles.make_child(maker.controller, maker.agent, child.as_slice())?;
     Ok(())
 }
@@ -124,7 +123,7 @@ pub(crate) fn make_children<A: Allocator + Copy>(
 ) -> Result<(), AllocError>
     requires room { HasRoom handles.old }
     requires children { list_all spec.is_child (map (λ c. c.items) children.now) ≡ true }
-    requires places { length handles.old.handles + length children.now ≤ handles.old.places }
+    requires places { length handles.old.handles + length children.now ≤ max_handles }
     ensures handles { OnOk result
         (handles.new ≡ spec.with_children maker (map (λ c. c.items) children.now) handles.old) }
     ensures grows { OnOk result (Grows handles.old handles.new) }

@@ -130,8 +130,6 @@ impl<A: Allocator + Copy> Connecting<A> {
         ensures grows { OnOk result (Grows self.old.handles self.new.handles) }
         ensures goes_on { GoesOn self.old self.new }
     {
-        // The contract of this look-up says for how many handles there are places at least.
-        let _numbers = self.handles.all();
         open_for_driver(&mut self.opens, controller, agent, plan.opens.as_slice())?;
         make_children(
             &mut self.handles,

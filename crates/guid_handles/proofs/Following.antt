@@ -119,12 +119,12 @@ of_stamp : (o : Option Interface) (s : ℕ) → option_map (λ i. i.stamp) o ≡
 of_stamp None s e = absurd cc
 of_stamp (Some i) s e = (i, refl, same_Some i.stamp s e)
 
-module _ (rows : List Row) (slots : List (Option Record)) (groups : List Group) (number stamp places : ℕ) (s : IsStore rows slots groups number stamp places) where
+module _ (rows : List Row) (slots : List (Option Record)) (groups : List Group) (number stamp : ℕ) (s : IsStore rows slots groups number stamp) where
   stamp_of : (guid : List ℕ) (n : ℕ) (j : Interface) → find (is_at n guid) (installed_until stamp slots) ≡ Some j → stamp_at groups guid n ≡ Some j.stamp
   stamp_of guid n j e = s.stamps guid n ∙ ap (option_map (λ (i : Interface). i.stamp)) e
 
   -- the interface that a group has next is the next of all
-  pub next_listed : (guid : List ℕ) (mark : ℕ) (r : Option (ℕ × ℕ)) → IsNext mark (stamp_at groups guid) r → r ≡ next_after (table_of rows slots number stamp places) guid mark
+  pub next_listed : (guid : List ℕ) (mark : ℕ) (r : Option (ℕ × ℕ)) → IsNext mark (stamp_at groups guid) r → r ≡ next_after (table_of rows slots number stamp) guid mark
   next_listed guid mark None h =
       let is : List Interface = installed_until stamp slots in
       ap (option_map {U = ℕ × ℕ} (λ (i : Interface). (i.handle, i.stamp)))
@@ -147,7 +147,7 @@ module _ (rows : List Row) (slots : List (Option Record)) (groups : List Group) 
       paired p i a b = rw (a, b) refl
 
   -- no interface is next after the last stamp
-  pub none_later : (guid : List ℕ) (mark : ℕ) → stamp ≤ mark → None ≡ next_after (table_of rows slots number stamp places) guid mark
+  pub none_later : (guid : List ℕ) (mark : ℕ) → stamp ≤ mark → None ≡ next_after (table_of rows slots number stamp) guid mark
   none_later guid mark l = next_listed guid mark None (λ n t e.
       let i = of_stamp (find (is_at n guid) (installed_until stamp slots)) t (sym (s.stamps guid n) ∙ e) in
       let under : i.0.stamp ≤ stamp = (found_one (λ x. x.stamp ≤ stamp) (is_at n guid) (installed_until stamp slots) i.0 s.table.below i.1).1 in

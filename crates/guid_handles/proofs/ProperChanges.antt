@@ -5,7 +5,7 @@ use Rattle.guid_handles.specs.declared.records.Interface.{Interface}
 use Rattle.guid_handles.specs.declared.records.LiveHandle.{LiveHandle}
 use Rattle.guid_handles.specs.declared.records.Pair.{Pair}
 use Rattle.guid_handles.specs.HandleTables.{HandleTable, has_number, is_live, numbers}
-use Rattle.guid_handles.specs.HandleChanges.{IsHandleTable, restamped, stamped, with_handle, with_interfaces}
+use Rattle.guid_handles.specs.HandleChanges.{IsHandleTable, max_handles, restamped, stamped, with_handle, with_interfaces}
 use Rattle.guid_handles.specs.Indexes.{AreOn}
 use Rattle.guid_handles.proofs.SortedLists.{all_append, all_filter, all_filtered, all_map, all_mapped, all_push, any_found, any_kept, any_map, any_push, ascending_filter, ascending_push, filter_map_filter, filter_shorter, map_append}
 use Rattle.guid_handles.proofs.Indexed.{restamped_handle}
@@ -18,7 +18,6 @@ fewer_interfaces p t h = record {
   ascending = h.ascending;
   given = h.given;
   limit = h.limit;
-  places = h.places;
   on_live = all_filter (λ i. list_any (λ m. nat_eq m i.handle) (numbers t) ≡ true) p t.interfaces h.on_live;
 }
 
@@ -38,7 +37,6 @@ fewer_handles p t h =
       ascending = rw e (ascending_filter (λ a b. a < b) p (numbers t) h.ascending);
       given = rw e (all_filter (λ m. (0 < m) × (m ≤ t.last_number)) p (numbers t) h.given);
       limit = omega (arith, h.limit, filter_shorter (λ x. p x.number) t.handles);
-      places = h.places;
       on_live = rw e (left_on_live p (numbers t) t.interfaces h.on_live);
     }
 
@@ -50,7 +48,6 @@ with_stamps n guid value stamp last t h = record {
   ascending = h.ascending;
   given = h.given;
   limit = h.limit;
-  places = h.places;
   on_live = all_mapped (λ i. list_any (λ m. nat_eq m i.handle) (numbers t) ≡ true) (λ i. list_any (λ m. nat_eq m i.handle) (numbers t) ≡ true) (restamped n guid value stamp)
       (λ i k. rw (restamped_handle n guid value stamp i) k) t.interfaces h.on_live;
 }
@@ -70,7 +67,6 @@ more_interfaces n pairs t h live = record {
   ascending = h.ascending;
   given = h.given;
   limit = h.limit;
-  places = h.places;
   on_live = all_append (λ i. list_any (λ m. nat_eq m i.handle) (numbers t) ≡ true) t.interfaces (stamped n t.last_stamp pairs) h.on_live
       (stamped_on (λ k. list_any (λ m. nat_eq m k) (numbers t)) n t.last_stamp pairs (live_number t n live));
 }
@@ -80,7 +76,7 @@ with_handle_on_live n ns is a =
     all_map (λ i. list_any (λ m. nat_eq m i.handle) ns ≡ true) (λ i. list_any (λ m. nat_eq m i.handle) (ns ++ n ∷ []) ≡ true) (λ i h. any_push (λ m. nat_eq m i.handle) ns n h) is a
 
 -- a new handle has the number after the last
-pub one_more : (maker : Option Pair) (t : HandleTable) → IsHandleTable t → length t.handles < t.places → IsHandleTable (with_handle maker t)
+pub one_more : (maker : Option Pair) (t : HandleTable) → IsHandleTable t → length t.handles < max_handles → IsHandleTable (with_handle maker t)
 one_more maker t h room =
     let e : numbers (with_handle maker t) ≡ numbers t ++ (t.last_number + 1) ∷ [] = map_append (λ (x : LiveHandle). x.number) t.handles (record { number = t.last_number + 1; maker = maker } ∷ []) in
     record {
@@ -90,6 +86,5 @@ one_more maker t h room =
           (all_map (λ m. (0 < m) × (m ≤ t.last_number)) (λ m. (0 < m) × (m ≤ t.last_number + 1)) (λ m k. (k.0, omega (arith, k.1))) (numbers t) h.given)
           (omega arith, omega arith));
       limit = rw length-append (omega (arith, room));
-      places = h.places;
       on_live = rw e (with_handle_on_live (t.last_number + 1) (numbers t) t.interfaces h.on_live);
     }

@@ -12,7 +12,7 @@ use Rattle.guid_handles.specs.declared.records.LiveHandle.{LiveHandle}
 use Rattle.guid_handles.specs.declared.records.Pair.{Pair}
 use Rattle.guid_handles.specs.declared.records.Record.{Record}
 use Rattle.guid_handles.specs.HandleTables.{HandleTable, numbers, same_guid, is_on, is_at, is_live, has_number, carries, holders_of}
-use Rattle.guid_handles.specs.HandleChanges.{IsHandleTable, max_handles, max_in_table, is_taken, has_guid_twice, restamped, with_interfaces, with_handle, without_handle}
+use Rattle.guid_handles.specs.HandleChanges.{IsHandleTable, max_handles, is_taken, has_guid_twice, restamped, with_interfaces, with_handle, without_handle}
 use Rattle.guid_handles.specs.Sorting.{Ascending}
 use Rattle.guid_handles.specs.Indexes.{Row, Group, ChangesKeys, AreOn, AreAbsent, HaveSameStamps, SetsStamp, lives, is_row_of, row_numbers, keys_of, keys_on, stamp_at}
 use Rattle.guid_handles.specs.Slots.{at_key, at_keys, is_key_of, record_at, installed_until, with_stamp}
@@ -60,7 +60,7 @@ table_with_interfaces t n pairs s live absent once = record {
   below = below_more n t.last_stamp pairs t.interfaces s.below;
 }
 
-table_with_handle : (t : HandleTable) (maker : Option Pair) → IsTable t → length t.handles < t.places → IsTable (with_handle maker t)
+table_with_handle : (t : HandleTable) (maker : Option Pair) → IsTable t → length t.handles < max_handles → IsTable (with_handle maker t)
 table_with_handle t maker s room = record { proper = one_more maker t s.proper room; apart = s.apart; below = s.below }
 
 -- the new handle is live
@@ -253,10 +253,10 @@ keys_without rows n m e =
     ]
 
 -- nothing is kept at first
-pub empty_store : (places : ℕ) → max_handles ≤ places → places ≤ max_in_table → IsStore [] [] [] 0 0 places
-empty_store places least most = record {
+pub empty_store : IsStore [] [] [] 0 0
+empty_store = record {
   table = record {
-    proper = record { ascending = tt; given = tt; limit = omega arith; places = (least, most); on_live = tt };
+    proper = record { ascending = tt; given = tt; limit = omega arith; on_live = tt };
     apart = tt;
     below = tt;
   };
@@ -267,7 +267,7 @@ empty_store places least most = record {
 
 -- ---- what is asked
 
-module _ (rows : List Row) (slots : List (Option Record)) (groups : List Group) (number stamp places : ℕ) (s : IsStore rows slots groups number stamp places) where
+module _ (rows : List Row) (slots : List (Option Record)) (groups : List Group) (number stamp : ℕ) (s : IsStore rows slots groups number stamp) where
   -- the interface at its key is the one that is asked for
   pub stored_at : (n : ℕ) (guid : List ℕ) → find (is_at n guid) (installed_until stamp slots) ≡ option_and_then (at_key slots) (key_at slots rows guid n)
   stored_at n guid = found_at (installed_until stamp slots) slots rows s.filed n guid
@@ -297,9 +297,9 @@ module _ (rows : List Row) (slots : List (Option Record)) (groups : List Group) 
   unstamped n guid e = s.stamps guid n ∙ ap (option_map (λ (i : Interface). i.stamp)) e
 
   -- the handles of a GUID are those that have a stamp in its group
-  pub by_guid : (guid hs : List ℕ) → Ascending (λ a b. a < b) hs → ((n : ℕ) → list_any (λ h. h == n) hs ≡ is_some (stamp_at groups guid n)) → hs ≡ holders_of (table_of rows slots number stamp places) guid
+  pub by_guid : (guid hs : List ℕ) → Ascending (λ a b. a < b) hs → ((n : ℕ) → list_any (λ h. h == n) hs ≡ is_some (stamp_at groups guid n)) → hs ≡ holders_of (table_of rows slots number stamp) guid
   by_guid guid hs ascending those =
-      let t : HandleTable = table_of rows slots number stamp places in
+      let t : HandleTable = table_of rows slots number stamp in
       let returned : (n : ℕ) → list_any (λ h. h == n) hs ≡ carries t guid n =
       λ n. those n ∙ ap is_some (s.stamps guid n) ∙ some_map (λ (i : Interface). i.stamp) (find (is_at n guid) (installed_until stamp slots)) in
       sym (filter_same (carries t guid) (λ n. list_any (λ h. h == n) hs) (numbers t) (all_of (λ n. carries t guid n ≡ list_any (λ h. h == n) hs) (λ n. sym (returned n)) (numbers t))
@@ -327,21 +327,21 @@ module _ (rows : List Row) (slots : List (Option Record)) (groups : List Group) 
 
   -- an interface comes
   pub stored_more : (rs : List Row) (new : List (Option Record)) (gs : List Group) (n : ℕ) (guid : List ℕ) (value key : ℕ)
-      → is_live (table_of rows slots number stamp places) n ≡ true → find (is_at n guid) (installed_until stamp slots) ≡ None
+      → is_live (table_of rows slots number stamp) n ≡ true → find (is_at n guid) (installed_until stamp slots) ≡ None
       → record_at slots key ≡ None
       → record_at new key ≡ Some (record { interface = record { handle = n; guid = guid; value = value; stamp = stamp + 1 }; installed = stamp + 1 })
       → ((j : ℕ) → j ≢ key → record_at new j ≡ record_at slots j)
       → ChangesKeys n (λ ks. ks ++ key ∷ []) rows rs
       → SetsStamp guid n (Some (stamp + 1)) groups gs
-      → (table_of rs new number (stamp + 1) places ≡ with_interfaces n ((guid, value) ∷ []) (table_of rows slots number stamp places)) × IsStore rs new gs number (stamp + 1) places
+      → (table_of rs new number (stamp + 1) ≡ with_interfaces n ((guid, value) ∷ []) (table_of rows slots number stamp)) × IsStore rs new gs number (stamp + 1)
   stored_more rs new gs n guid value key live absent none there others c g =
       let i : Interface = record { handle = n; guid = guid; value = value; stamp = stamp + 1 } in
       let more : installed_until (stamp + 1) new ≡ installed_until stamp slots ++ i ∷ [] =
       until_more stamp key slots new (record { interface = i; installed = stamp + 1 }) slots_below refl none there others in
-      let same : table_of rs new number (stamp + 1) places ≡ with_interfaces n ((guid, value) ∷ []) (table_of rows slots number stamp places) = rw (c.lives, more) refl in (
+      let same : table_of rs new number (stamp + 1) ≡ with_interfaces n ((guid, value) ∷ []) (table_of rows slots number stamp) = rw (c.lives, more) refl in (
         same,
         record {
-          table = subst IsTable (sym same) (table_with_interfaces (table_of rows slots number stamp places) n ((guid, value) ∷ []) s.table live (absent, tt) refl);
+          table = subst IsTable (sym same) (table_with_interfaces (table_of rows slots number stamp) n ((guid, value) ∷ []) s.table live (absent, tt) refl);
           filed = rw more (filed_more (installed_until stamp slots) slots new rows rs key i (ap (option_map (λ r. r.interface)) none) (ap (option_map (λ r. r.interface)) there)
               (at_others new key others) c (unkeyed n guid absent) s.filed);
           stamps = rw more (stamps_more (installed_until stamp slots) groups gs i absent g s.stamps);
@@ -388,15 +388,15 @@ module _ (rows : List Row) (slots : List (Option Record)) (groups : List Group) 
       → ((j : ℕ) → j ≢ key → record_at new j ≡ record_at slots j)
       → ChangesKeys n (filter (λ k. not (k == key))) rows rs
       → SetsStamp guid n None groups gs
-      → (table_of rs new number stamp places ≡ record (table_of rows slots number stamp places) { interfaces = filter (λ i. not (is_at n guid i)) (installed_until stamp slots) }) × IsStore rs new gs number stamp places
+      → (table_of rs new number stamp ≡ record (table_of rows slots number stamp) { interfaces = filter (λ i. not (is_at n guid i)) (installed_until stamp slots) }) × IsStore rs new gs number stamp
   stored_less rs new gs n guid key there none others c g =
       let q : Interface → Bool = λ i. not (is_at n guid i) in
       let less : installed_until stamp new ≡ filter q (installed_until stamp slots) =
       until_less q stamp key slots new (λ r e. rw (own_key n guid key there r e) refl) (λ j r d e. rw (other_key n guid key there j r d e) refl) none others in
-      let same : table_of rs new number stamp places ≡ record (table_of rows slots number stamp places) { interfaces = filter q (installed_until stamp slots) } = rw (c.lives, less) refl in (
+      let same : table_of rs new number stamp ≡ record (table_of rows slots number stamp) { interfaces = filter q (installed_until stamp slots) } = rw (c.lives, less) refl in (
         same,
         record {
-          table = subst IsTable (sym same) (table_without_interface (table_of rows slots number stamp places) n guid s.table);
+          table = subst IsTable (sym same) (table_without_interface (table_of rows slots number stamp) n guid s.table);
           filed = rw less (filed_less (installed_until stamp slots) slots new rows rs n guid key there (ap (option_map (λ r. r.interface)) none) (at_others new key others) c s.filed);
           stamps = rw less (stamps_less (installed_until stamp slots) groups gs n guid g s.stamps);
           stamped = λ j r e. elim (cases_eq j key) [
@@ -416,7 +416,7 @@ module _ (rows : List Row) (slots : List (Option Record)) (groups : List Group) 
       → key_at slots rows guid n ≡ Some key
       → record_at new key ≡ option_map (with_stamp value to) (record_at slots key) → ((j : ℕ) → j ≢ key → record_at new j ≡ record_at slots j)
       → SetsStamp guid n (Some to) groups gs
-      → (table_of rows new number stamp places ≡ put_at n guid value to (table_of rows slots number stamp places)) × IsStore rows new gs number stamp places
+      → (table_of rows new number stamp ≡ put_at n guid value to (table_of rows slots number stamp)) × IsStore rows new gs number stamp
   stored_put new gs n guid value to key may given there own others g =
       let x = recorded n guid key there in
       let f : Interface → Interface = restamped n guid value to in
@@ -428,10 +428,10 @@ module _ (rows : List Row) (slots : List (Option Record)) (groups : List Group) 
       let changed : installed_until stamp new ≡ map f (installed_until stamp slots) =
       until_changed f stamp key slots new (changed_slot n guid value to (record_at slots key) (λ r e. own_key n guid key there r e) ∙ ap (tagged (λ i. i)) (sym own))
       (λ j r d e. rw (other_key n guid key there j r d e) refl) others in
-      let same : table_of rows new number stamp places ≡ put_at n guid value to (table_of rows slots number stamp places) = rw changed refl in (
+      let same : table_of rows new number stamp ≡ put_at n guid value to (table_of rows slots number stamp) = rw changed refl in (
         same,
         record {
-          table = subst IsTable (sym same) (table_put (table_of rows slots number stamp places) n guid value to may given s.table);
+          table = subst IsTable (sym same) (table_put (table_of rows slots number stamp) n guid value to may given s.table);
           filed = rw changed (filed_changed (installed_until stamp slots) slots new rows n guid value to key there
               (λ y e. ap (option_map (λ r. r.interface)) own ∙ changed_there n guid value to (record_at slots key) (λ r k. own_key n guid key there r k) y e)
               (λ y e. new_there n guid value to (record_at slots key) (λ r k. own_key n guid key there r k) y (sym (ap (option_map (λ r. r.interface)) own) ∙ e))
@@ -455,13 +455,13 @@ module _ (rows : List Row) (slots : List (Option Record)) (groups : List Group) 
   given_if n guid (Some x) e = (found_one (λ i. i.stamp ≤ stamp) (is_at n guid) (installed_until stamp slots) x s.table.below (sym e)).1
 
   -- a stamp is given
-  pub stored_given : (table_of rows slots number (stamp + 1) places ≡ record (table_of rows slots number stamp places) { last_stamp = stamp + 1 }) × IsStore rows slots groups number (stamp + 1) places
+  pub stored_given : (table_of rows slots number (stamp + 1) ≡ record (table_of rows slots number stamp) { last_stamp = stamp + 1 }) × IsStore rows slots groups number (stamp + 1)
   stored_given =
       let same : installed_until (stamp + 1) slots ≡ installed_until stamp slots = until_later stamp slots slots_below in (
         rw same refl,
         record {
           table = record {
-            proper = record { ascending = s.table.proper.ascending; given = s.table.proper.given; limit = s.table.proper.limit; places = s.table.proper.places; on_live = rw same s.table.proper.on_live };
+            proper = record { ascending = s.table.proper.ascending; given = s.table.proper.given; limit = s.table.proper.limit; on_live = rw same s.table.proper.on_live };
             apart = rw same s.table.apart;
             below = rw same (all_map (λ i. i.stamp ≤ stamp) (λ i. i.stamp ≤ stamp + 1) (λ i l. omega (arith, l)) (installed_until stamp slots) s.table.below);
           };
@@ -478,20 +478,20 @@ module _ (rows : List Row) (slots : List (Option Record)) (groups : List Group) 
       subst (AllByRecursion (λ n. n < number + 1)) (live_numbers rows)
       (all_map (λ m. (0 < m) × (m ≤ number)) (λ m. m < number + 1) (λ m h. omega (arith, h.1)) (map (λ h. h.number) (lives rows)) s.table.proper.given)
 
-  pub live_row : (n : ℕ) → is_live (table_of rows slots number stamp places) n ≡ true → is_some (find (is_row_of n) rows) ≡ true
+  pub live_row : (n : ℕ) → is_live (table_of rows slots number stamp) n ≡ true → is_some (find (is_row_of n) rows) ≡ true
   live_row n l = sym (ap is_some (find_lives n rows) ∙ some_map (λ r. r.live) (find (is_row_of n) rows)) ∙ l
 
   -- a handle comes
-  pub stored_handle : (maker : Option Pair) → length (lives rows) < places
-      → (table_of (rows ++ record { live = record { number = number + 1; maker = maker }; keys = [] } ∷ []) slots (number + 1) stamp places ≡ with_handle maker (table_of rows slots number stamp places))
-      × IsStore (rows ++ record { live = record { number = number + 1; maker = maker }; keys = [] } ∷ []) slots groups (number + 1) stamp places
+  pub stored_handle : (maker : Option Pair) → length (lives rows) < max_handles
+      → (table_of (rows ++ record { live = record { number = number + 1; maker = maker }; keys = [] } ∷ []) slots (number + 1) stamp ≡ with_handle maker (table_of rows slots number stamp))
+      × IsStore (rows ++ record { live = record { number = number + 1; maker = maker }; keys = [] } ∷ []) slots groups (number + 1) stamp
   stored_handle maker room =
       let live : LiveHandle = record { number = number + 1; maker = maker } in
-      let same : table_of (rows ++ record { live = live; keys = [] } ∷ []) slots (number + 1) stamp places ≡ with_handle maker (table_of rows slots number stamp places) =
+      let same : table_of (rows ++ record { live = live; keys = [] } ∷ []) slots (number + 1) stamp ≡ with_handle maker (table_of rows slots number stamp) =
       rw (map_append (λ r. r.live) rows (record { live = live; keys = [] } ∷ [])) refl in (
         same,
         record {
-          table = subst IsTable (sym same) (table_with_handle (table_of rows slots number stamp places) maker s.table room);
+          table = subst IsTable (sym same) (table_with_handle (table_of rows slots number stamp) maker s.table room);
           filed = record { by_handle = λ n. rw (keys_push rows live n) (s.filed.by_handle n); in_row = λ key i e. ap (find (is_key_of slots i.guid)) (keys_push rows live i.handle) ∙ s.filed.in_row key i e };
           stamps = s.stamps;
           stamped = s.stamped;
@@ -514,13 +514,13 @@ module _ (rows : List Row) (slots : List (Option Record)) (groups : List Group) 
 
   -- a handle without interfaces goes
   pub stored_bare : (n : ℕ) → list_any (is_on n) (installed_until stamp slots) ≡ false
-      → (table_of (filter (λ r. not (is_row_of n r)) rows) slots number stamp places ≡ without_handle n (table_of rows slots number stamp places)) × IsStore (filter (λ r. not (is_row_of n r)) rows) slots groups number stamp places
+      → (table_of (filter (λ r. not (is_row_of n r)) rows) slots number stamp ≡ without_handle n (table_of rows slots number stamp)) × IsStore (filter (λ r. not (is_row_of n r)) rows) slots groups number stamp
   stored_bare n bare =
       let left : lives (filter (λ r. not (is_row_of n r)) rows) ≡ filter (λ h. not (has_number n h)) (lives rows) = filter_map_filter (λ r. r.live) (λ h. not (has_number n h)) rows in
-      let same : table_of (filter (λ r. not (is_row_of n r)) rows) slots number stamp places ≡ without_handle n (table_of rows slots number stamp places) = rw (left, none_goes n (installed_until stamp slots) bare) refl in (
+      let same : table_of (filter (λ r. not (is_row_of n r)) rows) slots number stamp ≡ without_handle n (table_of rows slots number stamp) = rw (left, none_goes n (installed_until stamp slots) bare) refl in (
         same,
         record {
-          table = subst IsTable (sym same) (table_without_handle (table_of rows slots number stamp places) n s.table);
+          table = subst IsTable (sym same) (table_without_handle (table_of rows slots number stamp) n s.table);
           filed = record {
             by_handle = λ m. rw (keys_without rows n m (bare_keys n bare)) (s.filed.by_handle m);
             in_row = λ key i e. ap (find (is_key_of slots i.guid)) (keys_without rows n i.handle (bare_keys n bare)) ∙ s.filed.in_row key i e;
@@ -533,14 +533,13 @@ module _ (rows : List Row) (slots : List (Option Record)) (groups : List Group) 
   -- ---- taken back
 
   -- the last number is given again, if no handle has it
-  pub stored_unmade : (last : ℕ) → AllByRecursion (λ n. n ≤ last) (map (λ h. h.number) (lives rows)) → IsStore rows slots groups last stamp places
+  pub stored_unmade : (last : ℕ) → AllByRecursion (λ n. n ≤ last) (map (λ h. h.number) (lives rows)) → IsStore rows slots groups last stamp
   stored_unmade last below = record {
     table = record {
       proper = record {
         ascending = s.table.proper.ascending;
         given = all_both (λ m. (0 < m) × (m ≤ number)) (λ m. m ≤ last) (λ m. (0 < m) × (m ≤ last)) (λ m h l. (h.0, l)) (map (λ h. h.number) (lives rows)) s.table.proper.given below;
         limit = s.table.proper.limit;
-        places = s.table.proper.places;
         on_live = s.table.proper.on_live;
       };
       apart = s.table.apart;
@@ -553,7 +552,7 @@ module _ (rows : List Row) (slots : List (Option Record)) (groups : List Group) 
 
   -- the last stamp is given again, if no interface has it
   pub stored_back : (last : ℕ) → stamp ≡ last + 1 → AllByRecursion (λ i. i.stamp < stamp) (installed_until stamp slots)
-      → (installed_until last slots ≡ installed_until stamp slots) × IsStore rows slots groups number last places
+      → (installed_until last slots ≡ installed_until stamp slots) × IsStore rows slots groups number last
   stored_back last e below =
       let under : AreBelow last slots = λ j r w.
       let f = slot_found j r.interface (ap (option_map (λ (x : Record). x.interface)) w) in
@@ -563,7 +562,7 @@ module _ (rows : List Row) (slots : List (Option Record)) (groups : List Group) 
         same,
         record {
           table = record {
-            proper = record { ascending = s.table.proper.ascending; given = s.table.proper.given; limit = s.table.proper.limit; places = s.table.proper.places; on_live = rw same s.table.proper.on_live };
+            proper = record { ascending = s.table.proper.ascending; given = s.table.proper.given; limit = s.table.proper.limit; on_live = rw same s.table.proper.on_live };
             apart = rw same s.table.apart;
             below = rw same (all_map (λ i. i.stamp < stamp) (λ i. i.stamp ≤ last) (λ i l. omega (arith, l, e)) (installed_until stamp slots) below);
           };
@@ -575,25 +574,25 @@ module _ (rows : List Row) (slots : List (Option Record)) (groups : List Group) 
 
   -- ---- by the tables before
 
-  pub unmade : (t : HandleTable) → table_of rows slots number stamp places ≡ without_handle t.last_number t → AllByRecursion (λ n. n < t.last_number) (filter (λ n. not (n == t.last_number)) (numbers t))
-      → IsStore rows slots groups (number - 1) stamp places
+  pub unmade : (t : HandleTable) → table_of rows slots number stamp ≡ without_handle t.last_number t → AllByRecursion (λ n. n < t.last_number) (filter (λ n. not (n == t.last_number)) (numbers t))
+      → IsStore rows slots groups (number - 1) stamp
   unmade t e below =
       let last : number ≡ t.last_number = ap (λ (x : HandleTable). x.last_number) e in
       let left : map (λ h. h.number) (lives rows) ≡ filter (λ n. not (n == t.last_number)) (numbers t) =
       ap (λ (x : HandleTable). numbers x) e ∙ filter_map_filter (λ (h : LiveHandle). h.number) (λ n. not (n == t.last_number)) t.handles in
       stored_unmade (number - 1) (rw left (all_map (λ n. n < t.last_number) (λ n. n ≤ number - 1) (λ n l. omega (arith, l, last)) (filter (λ n. not (n == t.last_number)) (numbers t)) below))
 
-  pub taken_back : (t : HandleTable) (is : List Interface) → table_of rows slots number stamp places ≡ record t { interfaces = is } → AllByRecursion (λ i. i.stamp < t.last_stamp) is → 0 < t.last_stamp
-      → (table_of rows slots number (stamp - 1) places ≡ record t { interfaces = is; last_stamp = t.last_stamp - 1 }) × IsStore rows slots groups number (stamp - 1) places
+  pub taken_back : (t : HandleTable) (is : List Interface) → table_of rows slots number stamp ≡ record t { interfaces = is } → AllByRecursion (λ i. i.stamp < t.last_stamp) is → 0 < t.last_stamp
+      → (table_of rows slots number (stamp - 1) ≡ record t { interfaces = is; last_stamp = t.last_stamp - 1 }) × IsStore rows slots groups number (stamp - 1)
   taken_back t is e below some =
       let last : stamp ≡ t.last_stamp = ap (λ (x : HandleTable). x.last_stamp) e in
       let these : installed_until stamp slots ≡ is = ap (λ (x : HandleTable). x.interfaces) e in
       let b = stored_back (stamp - 1) (omega (arith, last, some)) (rw (these, last) below) in
-      let back : table_of rows slots number (stamp - 1) places ≡ record (table_of rows slots number stamp places) { last_stamp = stamp - 1 } = rw b.0 refl in
+      let back : table_of rows slots number (stamp - 1) ≡ record (table_of rows slots number stamp) { last_stamp = stamp - 1 } = rw b.0 refl in
       (back ∙ ap (λ (x : HandleTable). record x { last_stamp = x.last_stamp - 1 }) e, b.1)
 
   -- groups with the same stamps
-  pub stored_same : (gs : List Group) → HaveSameStamps groups gs → IsStore rows slots gs number stamp places
+  pub stored_same : (gs : List Group) → HaveSameStamps groups gs → IsStore rows slots gs number stamp
   stored_same gs g = record {
     table = s.table;
     filed = s.filed;
@@ -601,8 +600,8 @@ module _ (rows : List Row) (slots : List (Option Record)) (groups : List Group) 
     stamped = s.stamped;
   }
 
-  pub stored_kept : (n : ℕ) (guid : List ℕ) → key_at slots rows guid n ≡ None → table_of rows slots number stamp places ≡ record (table_of rows slots number stamp places) { interfaces = filter (λ i. not (is_at n guid i)) (installed_until stamp slots) }
-  stored_kept n guid none = ap (λ is. record (table_of rows slots number stamp places) { interfaces = is }) (stored_none n guid none)
+  pub stored_kept : (n : ℕ) (guid : List ℕ) → key_at slots rows guid n ≡ None → table_of rows slots number stamp ≡ record (table_of rows slots number stamp) { interfaces = filter (λ i. not (is_at n guid i)) (installed_until stamp slots) }
+  stored_kept n guid none = ap (λ is. record (table_of rows slots number stamp) { interfaces = is }) (stored_none n guid none)
 
-  pub uncarried : (n : ℕ) (guid : List ℕ) → key_at slots rows guid n ≡ None → carries (table_of rows slots number stamp places) guid n ≡ true → ⊥
+  pub uncarried : (n : ℕ) (guid : List ℕ) → key_at slots rows guid n ≡ None → carries (table_of rows slots number stamp) guid n ≡ true → ⊥
   uncarried n guid none h = let w : false ≡ true = sym (ap is_some (stored_at n guid ∙ ap (option_and_then (at_key slots)) none)) ∙ h in cc

@@ -101,13 +101,13 @@ those_lower n (h ∷ hs) = elim (cases_Bool (nat_le h.number n)) [
   | inr f ↦ rw f (those_lower n hs)
 ]
 
-module _ (rows : List Row) (slots : List (Option Record)) (groups : List Group) (number stamp places : ℕ) (s : IsStore rows slots groups number stamp places) where
+module _ (rows : List Row) (slots : List (Option Record)) (groups : List Group) (number stamp : ℕ) (s : IsStore rows slots groups number stamp) where
   -- a number and a stamp are the last again, if no handle and no interface has a later one
   stored_back_to : (n last : ℕ) → AllByRecursion (λ k. k ≤ n) (map (λ h. h.number) (lives rows)) → last ≤ stamp → AllByRecursion (λ i. i.stamp ≤ last) (installed_until stamp slots)
-      → (installed_until last slots ≡ installed_until stamp slots) × IsStore rows slots groups n last places
+      → (installed_until last slots ≡ installed_until stamp slots) × IsStore rows slots groups n last
   stored_back_to n last lower l older =
       let under : AreBelow last slots = λ j r w.
-      let f = slot_found rows slots groups number stamp places s j r.interface (ap (option_map (λ (x : Record). x.interface)) w) in
+      let f = slot_found rows slots groups number stamp s j r.interface (ap (option_map (λ (x : Record). x.interface)) w) in
       let k : r.interface.stamp ≤ last = (found_one (λ i. i.stamp ≤ last) (is_at r.interface.handle r.interface.guid) (installed_until stamp slots) r.interface older f).1 in
       omega (arith, k, (s.stamped j r w).1) in
       let sum : stamp ≡ (stamp - last) + last = omega (arith, l) in
@@ -119,7 +119,6 @@ module _ (rows : List Row) (slots : List (Option Record)) (groups : List Group) 
               ascending = s.table.proper.ascending;
               given = all_both (λ m. (0 < m) × (m ≤ number)) (λ m. m ≤ n) (λ m. (0 < m) × (m ≤ n)) (λ m h k. (h.0, k)) (map (λ h. h.number) (lives rows)) s.table.proper.given lower;
               limit = s.table.proper.limit;
-              places = s.table.proper.places;
               on_live = rw same s.table.proper.on_live;
             };
             apart = rw same s.table.apart;
@@ -131,12 +130,12 @@ module _ (rows : List Row) (slots : List (Option Record)) (groups : List Group) 
         },
       )
 
-  pub taken_back_to_mark : (t : HandleTable) (n last : ℕ) → table_of rows slots number stamp places ≡ without_above n t → last ≤ t.last_stamp → AreOlder n last t
-      → (table_of rows slots n last places ≡ taken_back_to n last t) × IsStore rows slots groups n last places
+  pub taken_back_to_mark : (t : HandleTable) (n last : ℕ) → table_of rows slots number stamp ≡ without_above n t → last ≤ t.last_stamp → AreOlder n last t
+      → (table_of rows slots n last ≡ taken_back_to n last t) × IsStore rows slots groups n last
   taken_back_to_mark t n last e l older =
       let stamps : stamp ≡ t.last_stamp = ap (λ (x : HandleTable). x.last_stamp) e in
       let these : installed_until stamp slots ≡ (without_above n t).interfaces = ap (λ (x : HandleTable). x.interfaces) e in
       let those : lives rows ≡ filter (λ h. nat_le h.number n) t.handles = ap (λ (x : HandleTable). x.handles) e in
       let b = stored_back_to n last (rw those (those_lower n t.handles)) (omega (arith, l, stamps)) (rw these older) in
-      let back : table_of rows slots n last places ≡ record (table_of rows slots number stamp places) { last_number = n; last_stamp = last } = rw b.0 refl in
+      let back : table_of rows slots n last ≡ record (table_of rows slots number stamp) { last_number = n; last_stamp = last } = rw b.0 refl in
       (back ∙ ap (λ (x : HandleTable). record x { last_number = n; last_stamp = last }) e, b.1)

@@ -13,28 +13,20 @@ use Rattle.guid_handles.specs.Indexes.{AreOn}
 abbrev pub max_handles : ℕ
 max_handles = 4096
 
--- The most handles that a table has places for: as many as may be live, and as many again, which go
--- once drivers are started.
-abbrev pub max_in_table : ℕ
-max_in_table = 8192
-
 -- the most interfaces that one call may install
 abbrev pub max_installed : ℕ
 max_installed = 16
 
--- no handles, and places for a number of them
-abbrev pub no_handles : ℕ → HandleTable
-no_handles places =
-    record { handles = []; interfaces = []; last_number = 0; last_stamp = 0; places = places }
+-- before any call there are no handles
+abbrev pub no_handles : HandleTable
+no_handles = record { handles = []; interfaces = []; last_number = 0; last_stamp = 0 }
 
 -- What is true of every handle table: the numbers ascend, from 1 to the last that was given, and
--- each interface is on a live handle. There are no more handles than places, and from `max_handles`
--- to `max_in_table` places.
+-- each interface is on a live handle. There are no more handles than may be live.
 pub record IsHandleTable (t : HandleTable) : Type 0 where
   pub ascending : Ascending (λ a b. a < b) (numbers t)
   pub given : AllByRecursion (λ n. (0 < n) × (n ≤ t.last_number)) (numbers t)
-  pub limit : length t.handles ≤ t.places
-  pub places : (max_handles ≤ t.places) × (t.places ≤ max_in_table)
+  pub limit : length t.handles ≤ max_handles
   pub on_live : AreOn (numbers t) t.interfaces
 
 -- ---- handles and interfaces that come

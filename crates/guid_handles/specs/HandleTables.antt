@@ -8,13 +8,12 @@ use Rattle.guid_handles.specs.declared.records.Interface.{Interface}
 use Rattle.guid_handles.specs.declared.records.Pair.{Pair}
 
 -- The live handles by ascending number, the interfaces in order of installation, the last number
--- and the last stamp given, and for how many handles there are places.
+-- and the last stamp given.
 pub record HandleTable : Type 0 where
   pub handles : List LiveHandle
   pub interfaces : List Interface
   pub last_number : ℕ
   pub last_stamp : ℕ
-  pub places : ℕ
 
 -- two GUIDs are the same, byte for byte
 abbrev pub same_guid : List ℕ → List ℕ → Bool

@@ -45,20 +45,19 @@ HaveStamps interfaces groups = (guid : List ℕ) (n : ℕ)
 abbrev pub IsStamped : Record → Type 0
 IsStamped r = (0 < r.installed) × (r.installed ≤ r.interface.stamp)
 
--- the table that rows, slots, the last number and stamp and the places represent
-abbrev pub table_of : List Row → List (Option Record) → ℕ → ℕ → ℕ → HandleTable
-table_of rows slots last_number last_stamp places = record {
+-- the table that rows, slots, the last number and the last stamp represent
+abbrev pub table_of : List Row → List (Option Record) → ℕ → ℕ → HandleTable
+table_of rows slots last_number last_stamp = record {
   handles = lives rows;
   interfaces = installed_until last_stamp slots;
   last_number = last_number;
   last_stamp = last_stamp;
-  places = places;
 }
 
 -- A table in rows, slots and groups.
 pub record IsStore (rows : List Row) (slots : List (Option Record)) (groups : List Group)
-    (last_number last_stamp places : ℕ) : Type 0 where
-  pub table : IsTable (table_of rows slots last_number last_stamp places)
+    (last_number last_stamp : ℕ) : Type 0 where
+  pub table : IsTable (table_of rows slots last_number last_stamp)
   pub filed : AreFiled (installed_until last_stamp slots) slots rows
   pub stamps : HaveStamps (installed_until last_stamp slots) groups
   pub stamped : (key : ℕ) (r : Record) → record_at slots key ≡ Some r → IsStamped r

@@ -2,7 +2,7 @@
 ghost use Rattle.std.specs.Prelude.{◌≡◌, ◌≢◌, ◌+◌, ◌-◌, ◌<◌, ◌≤◌, ◌^◌, ◌==◌, ◌&&◌, ℕ, cond, not, is_some, IsSome, IfSome, IfNone, OnOk, true, false, [], ◌∷◌, ◌++◌, map, length, option_map, slice_get, None, Some, IfOk, OnErr};
 ghost use Rattle.std.specs.List.{find, list_any, AllByRecursion};
 ghost use Rattle.guid_handles.specs.HandleTables.{numbers, same_guid, is_live, is_on, maker_of, interface_at, value_at, carries, holders_of, interfaces_on, guids_on, written_over, next_after};
-ghost use Rattle.guid_handles.specs.HandleChanges.{IsHandleTable, max_handles, max_in_table, max_installed, no_handles, has_guid_twice, is_dead, is_taken, past_limit, refusal, with_interfaces, install_refusal, install_many_refusal, Installs, without_handle, without_interface, with_value};
+ghost use Rattle.guid_handles.specs.HandleChanges.{IsHandleTable, max_handles, max_installed, no_handles, has_guid_twice, is_dead, is_taken, past_limit, refusal, with_interfaces, install_refusal, install_many_refusal, Installs, without_handle, without_interface, with_value};
 ghost use Rattle.guid_handles.specs.Indexes.{AddsStamp, AreAbsent, ChangesKeys, HaveSameStamps, is_row_of, stamp_at};
 ghost use Rattle.guid_handles.specs.Slots.{record_at, with_stamp};
 ghost use Rattle.guid_handles.specs.Sorting.{Ascending};
@@ -25,10 +25,6 @@ use uuid::Uuid;
 /// The most handles that may be live.
 pub const MAX_HANDLES: usize = 4096;
 
-/// The most handles that a table has places for: as many as may be live, and as many again, which go once
-/// drivers are started.
-pub const MAX_IN_TABLE: usize = 2 * MAX_HANDLES;
-
 /// The most interfaces that one call may install.
 pub const MAX_INSTALLED: usize = 16;
 
@@ -42,7 +38,6 @@ pub struct Handles<A: Allocator = Global> {
     groups: Groups<A>,
     last_number: u64,
     last_stamp: u64,
-    places: usize,
 }
 
 impl<A: Allocator> Model for Handles<A> {
@@ -51,10 +46,10 @@ impl<A: Allocator> Model for Handles<A> {
 
     ghost Value = { HandleTable };
 
-    ghost view = { λ h. table_of h.rows h.records.slots h.last_number h.last_stamp h.places };
+    ghost view = { λ h. table_of h.rows h.records.slots h.last_number h.last_stamp };
 
     ghost invariant = { λ h.
-        IsStore h.rows h.records.slots h.groups h.last_number h.last_stamp h.places };
+        IsStore h.rows h.records.slots h.groups h.last_number h.last_stamp };
 }
 
 /// Puts the key of an interface on a live handle into its row, and its stamp into the group of its
@@ -132,18 +127,9 @@ fn last_above(numbers: &[u64], number: u64) -> Option<u64>
 }
 
 impl<A: Allocator + Copy> Handles<A> {
-    /// No handles, and places for as many as may be live. This takes no memory.
+    /// No handles. This takes no memory.
     pub fn new(alloc: A) -> Handles<A>
-        ensures { result ≡ no_handles max_handles }
-    {
-        Handles::with_places(alloc, MAX_HANDLES)
-    }
-
-    /// No handles, and places for a number of them, from `MAX_HANDLES` to `MAX_IN_TABLE`. This takes no memory.
-    pub fn with_places(alloc: A, places: usize) -> Handles<A>
-        requires least { max_handles ≤ places }
-        requires most { places ≤ max_in_table }
-        ensures { result ≡ no_handles places }
+        ensures { result ≡ no_handles }
     {
         Handles {
             rows: Rows::new(alloc),
@@ -151,7 +137,6 @@ impl<A: Allocator + Copy> Handles<A> {
             groups: Groups::new(alloc),
             last_number: 0,
             last_stamp: 0,
-            places,
         }
     }
 
@@ -169,7 +154,6 @@ impl<A: Allocator + Copy> Handles<A> {
             groups,
             last_number: self.last_number,
             last_stamp: self.last_stamp,
-            places: self.places,
         })
     }
 
@@ -180,13 +164,6 @@ impl<A: Allocator + Copy> Handles<A> {
         ensures proper { IsHandleTable self.now }
     {
         self.rows.numbers()
-    }
-
-    /// For how many handles the table has places.
-    pub fn places(&self) -> usize
-        ensures { result ≡ self.now.places }
-    {
-        self.places
     }
 
     /// Whether a handle is live.
@@ -447,7 +424,7 @@ impl<A: Allocator + Copy> Handles<A> {
 
     /// Makes a handle without interfaces, and returns its number.
     fn make_bare(&mut self, maker: Option<Pair>) -> Result<u64, AllocError>
-        requires room { length self.old.handles < self.old.places }
+        requires room { length self.old.handles < max_handles }
         requires numbers { self.old.last_number < 2 ^ 62 }
         ensures ok { IfOk result (λ n. MakesHandle maker self.old n self.new) }
         ensures proper { IsHandleTable self.old }
@@ -476,7 +453,7 @@ impl<A: Allocator + Copy> Handles<A> {
         maker: Option<Pair>,
         pairs: &[(Uuid, u64)],
     ) -> Result<u64, AllocError>
-        requires room { length self.old.handles < self.old.places }
+        requires room { length self.old.handles < max_handles }
         requires once { has_guid_twice pairs.now ≡ false }
         requires numbers { self.old.last_number < 2 ^ 62 }
         requires stamps { self.old.last_stamp < 2 ^ 62 }
@@ -503,8 +480,6 @@ impl<A: Allocator + Copy> Handles<A> {
         ensures numbers { self.new.last_number ≤ self.old.last_number + 1 }
         ensures stamps { self.new.last_stamp ≤ self.old.last_stamp + length pairs.now }
     {
-        // The contract of this look-up says that there are places for all handles that may be live.
-        let _numbers = self.all();
         if handle != 0 {
             match self.install_on(handle, pairs) {
                 Ok(()) => Ok(handle),
@@ -556,7 +531,7 @@ impl<A: Allocator + Copy> Handles<A> {
         agent: u64,
         pairs: &[(Uuid, u64)],
     ) -> Result<u64, AllocError>
-        requires room { length self.old.handles < self.old.places }
+        requires room { length self.old.handles < max_handles }
         requires some { 0 < length pairs.now }
         requires once { has_guid_twice pairs.now ≡ false }
         requires numbers { self.old.last_number < 2 ^ 62 }

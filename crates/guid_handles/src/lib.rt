@@ -15,7 +15,7 @@ mod searches;
 mod short_list;
 
 pub use guids::is_same_guid;
-pub use handles::{Handles, MAX_HANDLES, MAX_IN_TABLE, MAX_INSTALLED, has_guid_twice};
+pub use handles::{Handles, MAX_HANDLES, MAX_INSTALLED, has_guid_twice};
 pub use number_lists::NumberLists;
 pub use places::{add_place, has_place, remove_place};
 pub use records::{Interface, LiveHandle, Pair};

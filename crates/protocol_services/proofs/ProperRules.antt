@@ -24,10 +24,10 @@ use Rattle.protocol_services.proofs.ProperItems.{all_named, stopped_apart, stopp
 use Rattle.protocol_services.proofs.ProperStarts.{IsProper}
 
 pub parts_proper : (l : Lists) → AreProperLists l → IsProper l.handles l.opens
-parts_proper l s = record { table = record { table = s.table; limit = s.limit; places = s.places; guids = s.guids }; names = s.names; holders = s.holders }
+parts_proper l s = record { table = record { table = s.table; limit = s.limit; guids = s.guids }; names = s.names; holders = s.holders }
 
 pub lists_proper : (l : Lists) → IsProper l.handles l.opens → AreProperLists l
-lists_proper l s = record { table = s.table.table; limit = s.table.limit; places = s.table.places; guids = s.table.guids; names = s.names; holders = s.holders }
+lists_proper l s = record { table = s.table.table; limit = s.table.limit; guids = s.table.guids; names = s.names; holders = s.holders }
 
 pub same : (old new : Lists) → AreProperLists old → new ≡ old → AreProperLists new
 same old new s e = subst AreProperLists (sym e) s

@@ -7,7 +7,7 @@ use Rattle.guid_handles.specs.declared.records.Interface.{Interface}
 use Rattle.guid_handles.specs.declared.records.LiveHandle.{LiveHandle}
 use Rattle.guid_handles.specs.declared.records.Pair.{Pair}
 use Rattle.guid_handles.specs.HandleTables.{HandleTable, is_on, is_at, is_live, has_number}
-use Rattle.guid_handles.specs.HandleChanges.{IsHandleTable, max_handles, max_in_table, has_guid_twice, installed, is_dead, is_taken, past_limit, restamped, stamped, unless_bare, with_handle, with_interfaces, with_value, without_interface}
+use Rattle.guid_handles.specs.HandleChanges.{IsHandleTable, max_handles, has_guid_twice, installed, is_dead, is_taken, past_limit, restamped, stamped, unless_bare, with_handle, with_interfaces, with_value, without_interface}
 use Rattle.guid_handles.specs.Indexes.{AreAbsent}
 use Rattle.guid_handles.specs.Sorting.{Ascending}
 use Rattle.guid_handles.proofs.SortedLists.{any_found, any_push, filter_shorter, ascending_filter, ascending_map, ascending_push, find_filter, found_none}
@@ -18,11 +18,10 @@ use Rattle.driver_connect.specs.Starting.{is_child, with_child, with_children}
 use Rattle.protocol_services.specs.ProperLists.{AreApart}
 use Rattle.protocol_services.proofs.NewInterfaces.{next_added}
 
--- a handle table with no more handles than may be live, places for as many again, and no GUID twice on a handle
+-- a handle table with no more handles than may be live, and no GUID twice on a handle
 pub record IsProperTable (t : HandleTable) : Type 0 where
   pub table : IsHandleTable t
   pub limit : length t.handles ≤ max_handles
-  pub places : t.places ≡ max_in_table
   pub guids : Ascending AreApart t.interfaces
 
 -- ---- fewer
@@ -41,7 +40,6 @@ pub filtered_proper : (p : ℕ → Bool) (t : HandleTable) → IsProperTable t �
 filtered_proper p t s = record {
   table = fewer_handles p t s.table;
   limit = omega (arith, s.limit, filter_shorter (λ h. p h.number) t.handles);
-  places = s.places;
   guids = ascending_filter AreApart (λ i. p i.handle) t.interfaces s.guids;
 }
 
@@ -49,7 +47,6 @@ pub fewer_proper : (p : Interface → Bool) (t : HandleTable) → IsProperTable 
 fewer_proper p t s = record {
   table = fewer_interfaces p t s.table;
   limit = s.limit;
-  places = s.places;
   guids = ascending_filter AreApart p t.interfaces s.guids;
 }
 
@@ -79,7 +76,6 @@ pub with_value_proper : (n : ℕ) (guid : List ℕ) (value : ℕ) (t : HandleTab
 with_value_proper n guid value t s = record {
   table = with_stamps n guid value (t.last_stamp + 1) (t.last_stamp + 1) t s.table;
   limit = s.limit;
-  places = s.places;
   guids = ascending_map AreApart AreApart (restamped n guid value (t.last_stamp + 1)) (restamped_apart n guid value (t.last_stamp + 1)) t.interfaces s.guids;
 }
 
@@ -103,15 +99,13 @@ pub with_interfaces_proper : (n : ℕ) (pairs : List (List ℕ × ℕ)) (t : Han
 with_interfaces_proper n pairs t s live absent once = record {
   table = more_interfaces n pairs t s.table live;
   limit = s.limit;
-  places = s.places;
   guids = stamped_apart n t.last_stamp pairs t.interfaces s.guids absent once;
 }
 
 pub with_handle_proper : (maker : Option Pair) (t : HandleTable) → IsProperTable t → length t.handles < max_handles → IsProperTable (with_handle maker t)
 with_handle_proper maker t s room = record {
-  table = one_more maker t s.table (omega (arith, room, s.table.places.0));
+  table = one_more maker t s.table room;
   limit = rw length-append (omega (arith, room));
-  places = s.places;
   guids = s.guids;
 }
 

@@ -2,7 +2,7 @@
 use Rattle.std.specs.Prelude.{ℕ, ◌+◌, ◌<◌, ◌≤◌, ◌^◌, ◌≡◌, List, [], length}
 use Rattle.std.specs.List.{AllByRecursion}
 use Rattle.guid_handles.specs.HandleTables.{HandleTable}
-use Rattle.guid_handles.specs.HandleChanges.{max_in_table, no_handles}
+use Rattle.guid_handles.specs.HandleChanges.{no_handles}
 use Rattle.open_agents.specs.declared.items.OpenRecord.{OpenRecord}
 use Rattle.protocol_notify.specs.declared.notify.Registration.{Registration}
 
@@ -12,15 +12,9 @@ pub record Lists : Type 0 where
   pub opens : List OpenRecord
   pub registrations : List Registration
 
--- Before any call there is nothing in them. The handle table has places for as many handles as may be
--- live, and for as many again, which go once drivers are started.
+-- before any call there is nothing in them
 abbrev pub no_lists : Lists
-no_lists =
-    record {
-      handles = no_handles max_in_table;
-      opens = [];
-      registrations = [];
-    }
+no_lists = record { handles = no_handles; opens = []; registrations = [] }
 
 -- the handles are left so, and the other lists as they were
 abbrev pub OnHandles : (HandleTable → Type 0) → Lists → Lists → Type 0

@@ -3,7 +3,7 @@ use Rattle.std.specs.Prelude.{◌≡◌, ◌≤◌, ◌&&◌, ◌||◌, Bool, tr
 use Rattle.std.specs.List.{AllByRecursion}
 use Rattle.guid_handles.specs.declared.records.Interface.{Interface}
 use Rattle.guid_handles.specs.HandleTables.{HandleTable, is_at, is_live}
-use Rattle.guid_handles.specs.HandleChanges.{IsHandleTable, is_dead, max_handles, max_in_table}
+use Rattle.guid_handles.specs.HandleChanges.{IsHandleTable, is_dead, max_handles}
 use Rattle.guid_handles.specs.Sorting.{Ascending}
 use Rattle.open_agents.specs.declared.items.OpenRecord.{OpenRecord}
 use Rattle.open_agents.specs.OpenItems.{is_for_driver, is_exclusive, is_open_on}
@@ -27,12 +27,11 @@ holds o = is_for_driver o.attributes || is_exclusive o.attributes
 abbrev pub HoldApart : OpenRecord → OpenRecord → Type 0
 HoldApart o p = holds p ≡ true → (is_open_on p.handle p.guid o && holds o) ≡ false
 
--- The handle table is proper, with no more handles than may be live, places for as many again, and no
--- GUID twice on a handle; each open item names live handles; and each interface is held by one item at most.
+-- The handle table is proper, with no more handles than may be live, and no GUID twice on a handle;
+-- each open item names live handles; and each interface is held by one item at most.
 pub record AreProperLists (l : Lists) : Type 0 where
   pub table : IsHandleTable l.handles
   pub limit : length l.handles.handles ≤ max_handles
-  pub places : l.handles.places ≡ max_in_table
   pub guids : Ascending AreApart l.handles.interfaces
   pub names : AllByRecursion (NamesLive l.handles) l.opens
   pub holders : Ascending HoldApart l.opens

@@ -4,7 +4,7 @@ ghost use Rattle.protocol_services.specs.Installing.{InstallsInterface, Installs
 ghost use Rattle.protocol_services.specs.Lists.{HasRoom, HasRoomAfter, IsRaised, no_lists};
 
 use boot_calls::Installed;
-use guid_handles::{Handles, MAX_IN_TABLE};
+use guid_handles::Handles;
 use open_agents::Opens;
 use page_ranges::Status;
 use protocol_notify::Notify;
@@ -40,7 +40,7 @@ impl<A: Allocator + Copy> Protocols<A> {
     {
         Protocols {
             alloc,
-            handles: Handles::with_places(alloc, MAX_IN_TABLE),
+            handles: Handles::new(alloc),
             opens: Opens::new(alloc),
             registrations: Notify::new(alloc),
         }

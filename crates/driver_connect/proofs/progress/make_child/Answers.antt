@@ -10,7 +10,7 @@ returns-clause-made g c =
     child_made c.args.maker c.args.child.now.items _ _ _ (rw c.as_slice.ensures.value at c.in_ok-make_child.ensures.ok)
 
 pub make_child-requires-clause-numbers : goal.make_child-requires-clause-numbers
-make_child-requires-clause-numbers g c = omega (arith, c.requires.room.numbers, c.requires.places, c.all-numbers.ensures.proper.places.1)
+make_child-requires-clause-numbers g c = omega (arith, c.requires.room.numbers, c.requires.places)
 
 pub make_child-requires-clause-stamps : goal.make_child-requires-clause-stamps
-make_child-requires-clause-stamps g c = omega (arith, c.requires.room.stamps, c.requires.places, c.all-numbers.ensures.proper.places.1)
+make_child-requires-clause-stamps g c = omega (arith, c.requires.room.stamps, c.requires.places)

@@ -1,5 +1,6 @@
 use Rattle.std.proofs.Common.{◌≡◌, ◌+◌, ◌≤◌, true, map, drop, length}
 use Rattle.std.specs.List.{list_all}
+use Rattle.guid_handles.specs.HandleChanges.{max_handles}
 use Rattle.driver_connect.specs.GoingOn.{HasMade}
 use Rattle.driver_connect.specs.Room.{HasRoom, Grows}
 use Rattle.driver_connect.specs.Starting.{is_child, with_children}
@@ -13,5 +14,5 @@ invariant-loop-child g l = record {
   room : HasRoom l.handles;
   children : list_all is_child (map (λ c. c.items) (drop l.child-index l.children)) ≡ true;
   made : HasMade l.fn.handles l.handles;
-  places : length l.handles.handles + length (drop l.child-index l.children) ≤ l.handles.places;
+  places : length l.handles.handles + length (drop l.child-index l.children) ≤ max_handles;
 }

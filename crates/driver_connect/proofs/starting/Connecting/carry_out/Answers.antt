@@ -15,7 +15,7 @@ pub make_children-requires-clause-places : goal.make_children-requires-clause-pl
 make_children-requires-clause-places g c =
     let whole = sound_plan c.args.self.now.handles (protocols_on c.args.self.now.handles c.args.self.now.opens c.args.controller) c.args.plan.now c.requires.can in
     let room = rw (← c.self.view_is, ← c.plan.view_is) at whole.room in
-    rw c.as_slice-2.ensures.value (omega (arith, room, length-map c.plan.inside.children.items (λ c. c.items), c.all-numbers.ensures.proper.places.0))
+    rw c.as_slice-2.ensures.value (omega (arith, room, length-map c.plan.inside.children.items (λ c. c.items)))
 
 pub returns-in_err-open_for_driver-clause-goes_on : goal.returns-in_err-open_for_driver-clause-goes_on
 returns-in_err-open_for_driver-clause-goes_on g c = rw (← c.self.view_is) (goes_by _ _ (made_none c.self.inside.handles) c.open_for_driver.ensures.opened)

@@ -1,5 +1,0 @@
-use Rattle.guid_handles.proofs.Stored.{empty_store}
-use Rattle.guid_handles.proofs.handles.Handles.with_places.Goals as goal
-
-pub invariant_of-result : goal.invariant_of-result
-invariant_of-result g c = rw (c.new.ensures, c.new-2.ensures.empty, c.new-3.ensures) (empty_store c.args.places c.requires.least c.requires.most)
