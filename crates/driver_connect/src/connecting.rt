@@ -1,7 +1,7 @@
 //! Connecting a handle, and the handles that are made.
 ghost use Rattle.std.specs.Prelude.{◌≡◌, ◌+◌, ◌<◌, ◌≤◌, ◌^◌, ◌++◌, true, false, [], length, IfOk, OnOk, OnErr};
 ghost use Rattle.driver_connect.specs.Connecting as spec;
-ghost use Rattle.driver_connect.specs.Connecting.{ConnectsAll, ConnectsBy};
+ghost use Rattle.driver_connect.specs.Connecting.{ConnectsBelow, ConnectsBy};
 ghost use Rattle.driver_connect.specs.Pending.{ConnectsLevels, ConnectsOne, GrowsWith, first_last};
 ghost use Rattle.guid_handles.specs.HandleChanges.{IsHandleTable, max_handles};
 ghost use Rattle.driver_connect.specs.GoingOn.{GoesOn};
@@ -204,34 +204,29 @@ pub fn connect<D: Driver, A: Allocator + Copy>(
     }
 }
 
-/// Connects a handle and all that is made below it, with no driver named. It returns the events given,
-/// then those of the connect. On an `Err` nothing changes.
-pub(crate) fn connect_below<D: Driver, A: Allocator + Copy>(
-    alloc: A,
-    handles: &mut Handles<A>,
-    opens: &mut Opens<A>,
-    notify: &Notify<A>,
-    drivers: &[D],
-    handle: u64,
-    given: Vec<u64, A>,
-) -> Result<Vec<u64, A>, AllocError>
-    requires numbers { handles.old.last_number < 2 ^ 61 }
-    requires stamps { handles.old.last_stamp < 2 ^ 61 }
-    ensures ok { IfOk result (λ e. ConnectsAll D.meaning drivers.now notify.now
-        handle handles.old opens.old given.items e.items handles.new opens.new) }
-    ensures err { OnErr result ((handles.new ≡ handles.old) × (opens.new ≡ opens.old)) }
-    ensures numbers { handles.new.last_number ≤ handles.old.last_number + 4096 }
-    ensures stamps { handles.new.last_stamp ≤ handles.old.last_stamp + 16384 }
-{
-    let starter = Starter {
-        alloc,
-        drivers,
-        notify,
-    };
-    let first = Pending {
-        handle,
-        levels: LEVELS_BELOW,
-    };
-    let (_, events) = starter.connect_in_place(handles, opens, first, &[], given)?;
-    Ok(events)
+impl<'a, D: Driver, A: Allocator + Copy> Starter<'a, D, A> {
+    /// Connects a handle and all that is made below it, with no driver named. It returns the events
+    /// given, then those of the connect. On an `Err` nothing changes.
+    pub(crate) fn connect_below(
+        &self,
+        handles: &mut Handles<A>,
+        opens: &mut Opens<A>,
+        handle: u64,
+        given: Vec<u64, A>,
+    ) -> Result<Vec<u64, A>, AllocError>
+        requires numbers { handles.old.last_number < 2 ^ 61 }
+        requires stamps { handles.old.last_stamp < 2 ^ 61 }
+        ensures ok { IfOk result (λ e. ConnectsBelow (site_at D.meaning self.now handle)
+            handles.old opens.old given.items e.items handles.new opens.new) }
+        ensures err { OnErr result ((handles.new ≡ handles.old) × (opens.new ≡ opens.old)) }
+        ensures numbers { handles.new.last_number ≤ handles.old.last_number + 4096 }
+        ensures stamps { handles.new.last_stamp ≤ handles.old.last_stamp + 16384 }
+    {
+        let first = Pending {
+            handle,
+            levels: LEVELS_BELOW,
+        };
+        let (_, events) = self.connect_in_place(handles, opens, first, &[], given)?;
+        Ok(events)
+    }
 }

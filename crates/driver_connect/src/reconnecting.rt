@@ -3,8 +3,8 @@ ghost use Rattle.std.specs.Prelude.{◌≡◌, ◌+◌, ◌<◌, ◌≤◌, ◌^
 ghost use Rattle.guid_handles.specs.HandleTables.{carries};
 ghost use Rattle.driver_connect.specs.Connecting.{Reconnects};
 
-use crate::connecting::connect_below;
 use crate::driver::Driver;
+use crate::starting::Starter;
 use guid_handles::Handles;
 use open_agents::Opens;
 use protocol_notify::Notify;
@@ -43,7 +43,12 @@ pub fn replace_and_connect<D: Driver, A: Allocator + Copy>(
     let last_stamp = handles.last_stamp();
     handles.put(handle, guid, value, own.stamp);
     let stamp = handles.give_stamp();
-    match connect_below(alloc, handles, opens, notify, drivers, handle, given) {
+    let starter = Starter {
+        alloc,
+        drivers,
+        notify,
+    };
+    match starter.connect_below(handles, opens, handle, given) {
         Ok(events) => {
             handles.put(handle, guid, value, stamp);
             Ok(events)
