@@ -1,15 +1,15 @@
 -- Stamps beside handles that ascend: which one is beside a handle, what changes it, and which is next.
 use Rattle.std.proofs.Math.ListN.{set}
-use Rattle.std.proofs.Common.{get_or, ◌≡◌, ◌⊎◌, ℕ, zero, suc, ◌<◌, ◌≤◌, ◌==◌, nat_lt, true, false, cond, List, [], ◌∷◌, length, Option, Some, None, is_some, inl, inr, refl, sym, ap, ◌∙◌, arith, subst}
+use Rattle.std.proofs.Common.{get_or, ◌≡◌, ◌⊎◌, ℕ, zero, suc, ◌<◌, ◌≤◌, ◌==◌, nat_lt, true, false, cond, List, [], ◌∷◌, length, Option, Some, None, inl, inr, refl, sym, ap, ◌∙◌, arith, subst}
 use Rattle.std.specs.List.{AllByRecursion, slice_get, insert, remove}
 use Rattle.std.proofs.lemmas.Bool.{cases_Bool, ne_eqb, eq-eqb, ltb-true, ltb-false}
 use Rattle.std.proofs.lemmas.Bool.Decides.{eqb_tells}
 use Rattle.std.proofs.lemmas.Option.{same_Some}
 use Rattle.guid_handles.specs.Places.{has_place}
-use Rattle.guid_handles.specs.Sorting.{Ascending, place, kept_if}
+use Rattle.guid_handles.specs.Sorting.{Ascending, place}
 use Rattle.guid_handles.specs.Indexes.{AreBeside, IsNext, least_after, sooner, number_beside}
 use Rattle.guid_handles.proofs.SortedLists.{all_map, got_all, ascending_insert, ascending_remove}
-use Rattle.guid_handles.proofs.Grouped.{above, is_same}
+use Rattle.guid_handles.proofs.Grouped.{above}
 
 beside_none : (n : ℕ) (hs ks : List ℕ) → AllByRecursion (λ m. (m == n) ≡ false) hs → number_beside hs ks n ≡ None
 beside_none n [] ks a = refl
@@ -26,21 +26,6 @@ none_beside n (h ∷ hs) (k ∷ ks) e z = elim (cases_Bool (h == n)) [
 
 higher : (n : ℕ) (hs : List ℕ) (h : ℕ) → AllByRecursion (λ m. h < m) hs → n < h ⊎ (n ≡ h) → AllByRecursion (λ m. (m == n) ≡ false) hs
 higher n hs h a l = all_map (λ m. h < m) (λ m. (m == n) ≡ false) (λ m b. ne_eqb m n (λ e. elim l [ inl k ↦ omega (arith, b, e, k) | inr k ↦ omega (arith, b, e, k) ])) hs a
-
--- the stamp beside a handle is at the place of the handle
-pub beside_found : (n : ℕ) (hs ks : List ℕ) → AreBeside hs ks
-    → number_beside hs ks n ≡ cond (is_some (kept_if (λ m. m == n) (slice_get hs (place (λ m. nat_lt m n) hs)))) (slice_get ks (place (λ m. nat_lt m n) hs)) None
-beside_found n [] ks a = refl
-beside_found n (h ∷ hs) [] a = absurd (omega (arith, a.even))
-beside_found n (h ∷ hs) (k ∷ ks) a = elim (cases_Bool (nat_lt h n)) [
-  | inl t ↦
-      let f : (h == n) ≡ false = ne_eqb h n (λ e. omega (arith, e, ltb-true h n t)) in
-      rw t (rw f (beside_found n hs ks (record { ascending = a.ascending.1; even = omega (arith, a.even) })))
-  | inr f ↦ rw f (elim (cases_Bool (h == n)) [
-    | inl t ↦ rw t refl
-    | inr g ↦ rw g (beside_none n hs ks (higher n hs h a.ascending.0 (inl (above h n g f))))
-  ])
-]
 
 -- what is at an index that is there
 pub at_index : {X : Type 0} (xs : List X) (at : ℕ) (d : X) → at < length xs → slice_get xs at ≡ Some (get_or xs at d)
@@ -133,19 +118,6 @@ remove_beside hs ks at a = record {
   ascending = ascending_remove (λ a b. a < b) hs at a.ascending;
   even = even_remove hs ks at a.even;
 }
-
-pub none_beside_at : (n at : ℕ) (hs ks : List ℕ) → AreBeside hs ks → at ≡ place (λ m. nat_lt m n) hs → is_some (kept_if (λ m. m == n) (slice_get hs at)) ≡ false → number_beside hs ks n ≡ None
-none_beside_at n at hs ks a e f =
-    let s : is_some (kept_if (λ m. m == n) (slice_get hs (place (λ m. nat_lt m n) hs))) ≡ false = rw e at f in
-    beside_found n hs ks a ∙ rw s refl
-
--- a handle that is found at its place is there
-pub kept_there : (n : ℕ) (o : Option ℕ) → is_some (kept_if (λ m. m == n) o) ≡ true → o ≡ Some n
-kept_there n None h = absurd cc
-kept_there n (Some m) h = elim (cases_Bool (m == n)) [
-  | inl t ↦ ap (λ x. Some x) (is_same m n t)
-  | inr f ↦ let w = rw f at h in cc
-]
 
 -- where a handle has no stamp, to take it away changes nothing
 pub absent_same : (h n : ℕ) (hs ks : List ℕ) → number_beside hs ks h ≡ None → number_beside hs ks n ≡ cond (h == n) None (number_beside hs ks n)

@@ -1,7 +1,7 @@
 -- Lists in order: where a test stops passing, what is found there, and what insertions, filters and changes keep.
 use Rattle.std.proofs.Math.Seq.{drop-cons}
 use Rattle.std.proofs.Math.ListN.{set}
-use Rattle.std.proofs.Common.{add-one, ◌≡◌, ◌⊎◌, ℕ, zero, suc, ◌+◌, ◌-◌, ◌<◌, ◌≤◌, ◌==◌, ◌||◌, nat_lt, not, subst, Bool, true, false, cond, List, [], ◌∷◌, ◌++◌, map, length, take, drop, get_or, Option, Some, None, is_some, inl, inr, refl, sym, ap, ◌∙◌, arith}
+use Rattle.std.proofs.Common.{add-one, ◌≡◌, ◌⊎◌, ℕ, zero, suc, ◌+◌, ◌-◌, ◌<◌, ◌≤◌, ◌==◌, ◌||◌, nat_lt, not, subst, Bool, true, false, cond, List, [], ◌∷◌, ◌++◌, map, length, take, drop, get_or, Some, None, is_some, inl, inr, refl, sym, ap, ◌∙◌, arith}
 use Rattle.std.specs.List.{filter, find, list_any, AllByRecursion, slice_get, insert, remove}
 use Rattle.std.specs.List.Sorted.{IsPartitionedBy, IsPartitionPoint}
 use Rattle.std.specs.Option.{option_map}
@@ -417,46 +417,6 @@ behind_place p (x ∷ xs) f = elim (cases_Bool (p x)) [
   | inr e ↦ rw e (ap (λ r. x ∷ r) (sym (filter_whole p xs (f.0 e))))
 ]
 
-pub filter_at : {X : Type 0} (number : X → ℕ) (n : ℕ) (xs : List X) → Ascending (λ a b. a < b) (map number xs) → is_some (kept_if (λ x. number x == n) (slice_get xs (place (λ x. nat_lt (number x) n) xs))) ≡ true
-    → filter (λ x. not (number x == n)) xs ≡ remove xs (place (λ x. nat_lt (number x) n) xs)
-filter_at number n [] a h = cc
-filter_at number n (x ∷ xs) a h = elim (cases_Bool (nat_lt (number x) n)) [
-  | inl e ↦
-      let f : (number x == n) ≡ false = ne_eqb (number x) n (λ w. omega (arith, ltb-true (number x) n e, w)) in
-      rw e (rw f (ap (λ r. x ∷ r) (filter_at number n xs a.1 (rw e at h))))
-  | inr e ↦ elim (eqb_tells (number x) n) [
-    | inl t ↦
-        rw e (rw t.0
-        (filter_whole (λ y. number y == n) xs
-        (all_numbered number (λ m. number x < m) (λ m. (m == n) ≡ false) (λ m l. ne_eqb m n (λ w. omega (arith, l, w, t.1))) xs a.0)))
-    | inr f ↦ let k = rw e at h in let w = rw f.0 at k in cc
-  ]
-]
-
-map_self : (ns : List ℕ) → map (λ m. m) ns ≡ ns
-map_self [] = refl
-map_self (n ∷ ns) = ap (λ r. n ∷ r) (map_self ns)
-
-none_some : {X : Type 0} (o : Option X) → is_some o ≡ false → o ≡ None
-none_some None h = refl
-none_some (Some x) h = cc
-
-pub filter_not_at : {X : Type 0} (number : X → ℕ) (n : ℕ) (xs : List X) → Ascending (λ a b. a < b) (map number xs) → is_some (kept_if (λ x. number x == n) (slice_get xs (place (λ x. nat_lt (number x) n) xs))) ≡ false
-    → filter (λ x. not (number x == n)) xs ≡ xs
-filter_not_at number n xs a h =
-    filter_whole (λ x. number x == n) xs
-    (found_none (λ x. number x == n) xs
-    (find_split (λ x. nat_lt (number x) n) (λ x. number x == n) xs (numbers_split number n xs a)
-    ∙ none_some (kept_if (λ x. number x == n) (slice_get xs (place (λ x. nat_lt (number x) n) xs))) h))
-
--- numbers without one of them
-pub number_gone : (n : ℕ) (ns : List ℕ) (at : ℕ) → Ascending (λ a b. a < b) ns → at ≡ place (λ m. nat_lt m n) ns → is_some (kept_if (λ m. m == n) (slice_get ns at)) ≡ true → remove ns at ≡ filter (λ m. not (m == n)) ns
-number_gone n ns at a e s =
-    rw e (sym (filter_at (λ m. m) n ns (subst (Ascending (λ a b. a < b)) (sym (map_self ns)) a) (rw e at s)))
-
-pub number_absent : (n : ℕ) (ns : List ℕ) (at : ℕ) → Ascending (λ a b. a < b) ns → at ≡ place (λ m. nat_lt m n) ns → is_some (kept_if (λ m. m == n) (slice_get ns at)) ≡ false → ns ≡ filter (λ m. not (m == n)) ns
-number_absent n ns at a e s = sym (filter_not_at (λ m. m) n ns (subst (Ascending (λ a b. a < b)) (sym (map_self ns)) a) (rw e at s))
-
 -- ---- one takes the place of another
 
 pub set_same : {X Y : Type 0} (f : X → Y) (xs : List X) (at : ℕ) (x y : X) → slice_get xs at ≡ Some x → f y ≡ f x → map f (set xs at y) ≡ map f xs
@@ -491,23 +451,3 @@ last_least n (x ∷ y ∷ ys) l a e b =
 pub all_less : (n : ℕ) (ns : List ℕ) → AllByRecursion (λ m. m < n) ns → length ns ≡ place (λ m. nat_lt m n) ns
 all_less n [] a = refl
 all_less n (m ∷ ms) a = let t : nat_lt m n ≡ true = lt-ltb m n a.0 in rw t (ap suc (all_less n ms a.1))
-
--- the last of items by ascending numbers has the highest
-pub last_numbered : {X : Type 0} (number : X → ℕ) (n : ℕ) (xs : List X) (l : X) → Ascending (λ a b. a < b) (map number xs) → slice_get xs (length xs - 1) ≡ Some l → number l < n → AllByRecursion (λ k. k < n) (map number xs)
-last_numbered number n [] l a e b = tt
-last_numbered number n (x ∷ []) l a e b =
-    let same : x ≡ l = same_Some x l e in
-    (subst (λ y. number y < n) (sym same) b, tt)
-last_numbered number n (x ∷ y ∷ ys) l a e b =
-    let i : length (x ∷ y ∷ ys) - 1 ≡ suc (length (y ∷ ys) - 1) = omega arith in
-    let rest = last_numbered number n (y ∷ ys) l a.1 (rw i at e) b in
-    (omega (arith, a.0.0, rest.0), rest)
-
-pub none_numbered : {X : Type 0} (number : X → ℕ) (n : ℕ) (xs : List X) → slice_get xs (length xs - 1) ≡ None → AllByRecursion (λ k. k < n) (map number xs)
-none_numbered {X = X} number n [] e = tt
-none_numbered {X = X} number n (x ∷ xs) e = absurd (short (x ∷ xs) (length (x ∷ xs) - 1) (omega arith) e)
-  where
-    short : (ys : List X) (k : ℕ) → k < length ys → slice_get ys k ≡ None → ⊥
-    short [] k l w = omega (arith, l)
-    short (y ∷ ys) zero l w = cc
-    short (y ∷ ys) (suc k) l w = short ys k (omega (arith, l)) w

@@ -4,7 +4,7 @@ ghost use Rattle.guid_handles.specs.Sorting.{Ascending};
 ghost use Rattle.guid_handles.specs.Indexes.{IsNext, SetsStampIn, is_bare, least_after, sooner, stamp_in};
 
 use crate::room::{insert_with_room, make_short_room};
-use crate::searches::{count_less, count_less_than_new, is_number_at};
+use crate::searches::{count_less_than_new, index_of};
 use std::alloc::{AllocError, Allocator};
 use std::marker::Model;
 use uuid::Uuid;
@@ -138,8 +138,7 @@ impl<A: Allocator + Copy> GuidGroup<A> {
         ensures guid { self.new.guid ≡ self.old.guid }
         ensures stamps { SetsStampIn handle None self.old self.new }
     {
-        let at = count_less(self.holders.as_slice(), handle);
-        if is_number_at(self.holders.as_slice(), at, handle) {
+        if let Some(at) = index_of(self.holders.as_slice(), handle) {
             self.holders.remove(at);
             self.stamps.remove(at);
         }
@@ -151,8 +150,7 @@ impl<A: Allocator + Copy> GuidGroup<A> {
         ensures guid { self.new.guid ≡ self.old.guid }
         ensures stamps { SetsStampIn handle (Some stamp) self.old self.new }
     {
-        let at = count_less(self.holders.as_slice(), handle);
-        if is_number_at(self.holders.as_slice(), at, handle) {
+        if let Some(at) = index_of(self.holders.as_slice(), handle) {
             self.stamps[at] = stamp;
         }
     }

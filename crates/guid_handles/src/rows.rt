@@ -1,8 +1,7 @@
 //! The live handles.
-ghost use Rattle.std.specs.Prelude.{◌≡◌, ◌≢◌, ◌<◌, ◌≤◌, ◌==◌, ◌++◌, ℕ, [], ◌∷◌, not, length, is_some, true, false, None, Some, IfOk, OnOk, OnErr, IfSome, IfNone, option_map, slice_get};
+ghost use Rattle.std.specs.Prelude.{◌≡◌, ◌≢◌, ◌<◌, ◌==◌, ◌++◌, ℕ, [], ◌∷◌, not, length, is_some, true, false, None, Some, IfOk, OnOk, OnErr, option_map};
 ghost use Rattle.std.specs.List.{find, filter, AllByRecursion};
 ghost use Rattle.guid_handles.specs.HandleTables.{has_number};
-ghost use Rattle.guid_handles.specs.Places.{has_place};
 ghost use Rattle.guid_handles.specs.Sorting.{Ascending};
 ghost use Rattle.guid_handles.specs.Indexes.{AreBeside, lives, row_numbers, keys_on, is_row_of, keys_of, number_beside, row_at, ChangesKeys, ChangesRow};
 ghost use Rattle.guid_handles.specs.NumberLists.{list_of, with_last, without};
@@ -12,7 +11,7 @@ use crate::handle_row::HandleRow;
 use crate::number_lists::NumberLists;
 use crate::records::LiveHandle;
 use crate::room::{make_room, make_slot};
-use crate::searches::{count_less, is_number_at};
+use crate::searches::index_of;
 use slab::Slab;
 use std::alloc::{AllocError, Allocator};
 use std::marker::Model;
@@ -38,35 +37,6 @@ impl<A: Allocator> Model for Rows<A> {
     ghost view = { λ r. rows_at r.rows.slots r.places.items };
 
     ghost invariant = { λ r. AreRows r.numbers.items r.places.items r.rows.slots r.made };
-}
-
-/// Where a number is, if none between it and the last one is missing.
-fn likely_index(numbers: &[u64], number: u64) -> usize {
-    match numbers.last() {
-        Some(last) => {
-            let behind = last.wrapping_sub(number);
-            (numbers.len() as u64).wrapping_sub(1).wrapping_sub(behind) as usize
-        }
-        None => 0,
-    }
-}
-
-/// Where a number is among ascending ones.
-fn index_of(numbers: &[u64], number: u64) -> Option<usize>
-    requires { Ascending (λ a b. a < b) numbers.now }
-    ensures there { IfSome result (λ at. slice_get numbers.now at ≡ Some number) }
-    ensures none { IfNone result (has_place numbers.now number ≡ false) }
-{
-    let likely = likely_index(numbers, number);
-    if is_number_at(numbers, likely, number) {
-        return Some(likely);
-    }
-    let at = count_less(numbers, number);
-    if is_number_at(numbers, at, number) {
-        Some(at)
-    } else {
-        None
-    }
 }
 
 /// The place beside a number.

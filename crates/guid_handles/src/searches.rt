@@ -1,7 +1,8 @@
 //! Finding numbers and interfaces.
-ghost use Rattle.std.specs.Prelude.{◌≡◌, ◌<◌, ◌≤◌, ◌==◌, true, is_some, length, not, nat_lt, map, slice_get, slice_set};
-ghost use Rattle.std.specs.List.{filter, find, AllByRecursion};
+ghost use Rattle.std.specs.Prelude.{◌≡◌, ◌<◌, ◌≤◌, ◌==◌, true, false, is_some, length, nat_lt, map, Some, IfSome, IfNone, slice_get, slice_set};
+ghost use Rattle.std.specs.List.{find, AllByRecursion};
 ghost use Rattle.guid_handles.specs.HandleTables.{written_over};
+ghost use Rattle.guid_handles.specs.Places.{has_place};
 ghost use Rattle.guid_handles.specs.Sorting.{Ascending, place, kept_if};
 ghost use Rattle.guid_handles.specs.Slots.{at_key, at_keys, is_key_of};
 
@@ -12,7 +13,7 @@ use std::alloc::Allocator;
 use uuid::Uuid;
 
 /// How many of some ascending numbers are less than one.
-pub(crate) fn count_less(numbers: &[u64], number: u64) -> usize
+fn count_less(numbers: &[u64], number: u64) -> usize
     requires { Ascending (λ a b. a < b) numbers.now }
     ensures place { result ≡ place (λ n. nat_lt n number) numbers.now }
     ensures bound { result ≤ length numbers.now }
@@ -49,12 +50,41 @@ pub(crate) fn count_less_than_new(numbers: &[u64], number: u64) -> usize
 }
 
 /// Whether a number is at a place.
-pub(crate) fn is_number_at(numbers: &[u64], at: usize, number: u64) -> bool
+fn is_number_at(numbers: &[u64], at: usize, number: u64) -> bool
     ensures { result ≡ is_some (kept_if (λ n. n == number) (slice_get numbers.now at)) }
 {
     match numbers.get(at) {
         Some(n) => *n == number,
         None => false,
+    }
+}
+
+/// Where a number is, if none between it and the last one is missing.
+fn likely_index(numbers: &[u64], number: u64) -> usize {
+    match numbers.last() {
+        Some(last) => {
+            let behind = last.wrapping_sub(number);
+            (numbers.len() as u64).wrapping_sub(1).wrapping_sub(behind) as usize
+        }
+        None => 0,
+    }
+}
+
+/// Where a number is among ascending ones.
+pub(crate) fn index_of(numbers: &[u64], number: u64) -> Option<usize>
+    requires { Ascending (λ a b. a < b) numbers.now }
+    ensures there { IfSome result (λ at. slice_get numbers.now at ≡ Some number) }
+    ensures none { IfNone result (has_place numbers.now number ≡ false) }
+{
+    let likely = likely_index(numbers, number);
+    if is_number_at(numbers, likely, number) {
+        return Some(likely);
+    }
+    let at = count_less(numbers, number);
+    if is_number_at(numbers, at, number) {
+        Some(at)
+    } else {
+        None
     }
 }
 
