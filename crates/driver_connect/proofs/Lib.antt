@@ -29,7 +29,6 @@ pub mod DriverLists
 pub mod TurnSteps
 pub mod StopsInOrder
 pub mod GoingOn
-pub mod Restamped
 pub mod OnePair
 pub mod Lives
 pub mod Slots

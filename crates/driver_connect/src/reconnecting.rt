@@ -12,8 +12,7 @@ use std::alloc::{AllocError, Allocator};
 use uuid::Uuid;
 
 /// Gives an interface another value and a new stamp, and connects its handle with all below it, with no
-/// driver named. It returns the events given, then those of the connect. On an `Err` nothing changes. No
-/// driver is shown a stamp, so the interface keeps its own until the connect is done.
+/// driver named. It returns the events given, then those of the connect. On an `Err` nothing changes.
 pub fn replace_and_connect<D: Driver, A: Allocator + Copy>(
     alloc: A,
     handles: &mut Handles<A>,
@@ -37,25 +36,17 @@ pub fn replace_and_connect<D: Driver, A: Allocator + Copy>(
     let Some(own) = handles.installed(handle, guid) else {
         unreachable!();
     };
-    // The contracts of these look-ups say that the handles are in order, and that no stamp is later.
-    let _numbers = handles.all();
-    let last_number = handles.last_number();
     let last_stamp = handles.last_stamp();
-    handles.put(handle, guid, value, own.stamp);
-    let stamp = handles.give_stamp();
+    handles.replace(handle, guid, value);
     let starter = Starter {
         alloc,
         drivers,
         notify,
     };
     match starter.connect_below(handles, opens, handle, given) {
-        Ok(events) => {
-            handles.put(handle, guid, value, stamp);
-            Ok(events)
-        }
+        Ok(events) => Ok(events),
         Err(error) => {
-            handles.put(handle, guid, own.value, own.stamp);
-            handles.take_back_to(last_number, last_stamp);
+            handles.restore(handle, guid, own, last_stamp);
             Err(error)
         }
     }

@@ -1,5 +1,5 @@
 -- Interfaces each of which is one of its kind and has a stamp of its own: what keeps them so.
-use Rattle.std.proofs.Common.{◌≡◌, ℕ, ◌+◌, ◌≤◌, ◌==◌, true, false, List, [], ◌∷◌, ◌++◌, map, length, None, inl, inr, refl, sym, ◌∙◌, arith, subst}
+use Rattle.std.proofs.Common.{◌≡◌, ℕ, ◌+◌, ◌<◌, ◌≤◌, ◌==◌, true, false, List, [], ◌∷◌, ◌++◌, map, length, None, inl, inr, refl, sym, ◌∙◌, arith, subst}
 use Rattle.std.specs.List.{find, AllByRecursion}
 use Rattle.std.proofs.lemmas.Bool.{cases_Bool, ne_eqb}
 use Rattle.guid_handles.specs.declared.records.Interface.{Interface}
@@ -7,11 +7,10 @@ use Rattle.guid_handles.specs.HandleTables.{same_guid, is_at}
 use Rattle.guid_handles.specs.HandleChanges.{restamped, stamped, has_guid_twice}
 use Rattle.guid_handles.specs.Sorting.{Ascending}
 use Rattle.guid_handles.specs.Indexes.{AreAbsent}
-use Rattle.guid_handles.specs.TableSteps.{MayHave}
 use Rattle.guid_handles.specs.Stores.{AreApart}
 use Rattle.guid_handles.proofs.SortedLists.{all_map, all_both, all_mapped, all_append, found_none}
 use Rattle.guid_handles.proofs.GuidOrder.{and_false}
-use Rattle.guid_handles.proofs.Indexed.{at_handle, at_guid, restamped_handle, restamped_guid, first_of_guid, turned}
+use Rattle.guid_handles.proofs.Indexed.{at_handle, at_guid, restamped_handle, restamped_guid, first_of_guid}
 
 -- ---- lists
 
@@ -61,7 +60,7 @@ below_more n last pairs listed below =
 
 -- ---- changed
 
-apart_two : (n : ℕ) (guid : List ℕ) (value stamp : ℕ) (x y : Interface) → MayHave n guid stamp x → MayHave n guid stamp y → AreApart x y → AreApart (restamped n guid value stamp x) (restamped n guid value stamp y)
+apart_two : (n : ℕ) (guid : List ℕ) (value stamp : ℕ) (x y : Interface) → x.stamp < stamp → y.stamp < stamp → AreApart x y → AreApart (restamped n guid value stamp x) (restamped n guid value stamp y)
 apart_two n guid value stamp x y l m d = (
   rw (restamped_handle n guid value stamp y, restamped_guid n guid value stamp y, restamped_handle n guid value stamp x, restamped_guid n guid value stamp x) d.0,
   elim (cases_Bool (is_at n guid x)) [
@@ -69,29 +68,29 @@ apart_two n guid value stamp x y l m d = (
       | inl u ↦
           let f : is_at n guid x ≡ false = subst (λ (g : List ℕ). is_at n g x ≡ false) (at_guid n guid y u) (subst (λ (k : ℕ). is_at k y.guid x ≡ false) (at_handle n guid y u) d.0) in
           let w : true ≡ false = sym t ∙ f in cc
-      | inr u ↦ rw (t, u) (turned stamp y.stamp ∙ m.1 u)
+      | inr u ↦ rw (t, u) (ne_eqb stamp y.stamp (λ e. omega (arith, e, m)))
     ]
     | inr t ↦ elim (cases_Bool (is_at n guid y)) [
-      | inl u ↦ rw (t, u) (l.1 t)
+      | inl u ↦ rw (t, u) (ne_eqb x.stamp stamp (λ e. omega (arith, e, l)))
       | inr u ↦ rw (t, u) d.1
     ]
   ],
 )
 
-pub apart_restamped : (n : ℕ) (guid : List ℕ) (value stamp : ℕ) (xs : List Interface) → AllByRecursion (MayHave n guid stamp) xs → Ascending AreApart xs → Ascending AreApart (map (restamped n guid value stamp) xs)
+pub apart_restamped : (n : ℕ) (guid : List ℕ) (value stamp : ℕ) (xs : List Interface) → AllByRecursion (λ i. i.stamp < stamp) xs → Ascending AreApart xs → Ascending AreApart (map (restamped n guid value stamp) xs)
 apart_restamped n guid value stamp [] b a = tt
 apart_restamped n guid value stamp (x ∷ xs) b a = (
-  all_mapped (AreApart (restamped n guid value stamp x)) (λ y. AreApart x y × MayHave n guid stamp y) (restamped n guid value stamp) (λ y h. apart_two n guid value stamp x y b.0 h.1 h.0) xs
-      (all_both (AreApart x) (MayHave n guid stamp) (λ y. AreApart x y × MayHave n guid stamp y) (λ y d l. (d, l)) xs a.0 b.1),
+  all_mapped (AreApart (restamped n guid value stamp x)) (λ y. AreApart x y × (y.stamp < stamp)) (restamped n guid value stamp) (λ y h. apart_two n guid value stamp x y b.0 h.1 h.0) xs
+      (all_both (AreApart x) (λ y. y.stamp < stamp) (λ y. AreApart x y × (y.stamp < stamp)) (λ y d l. (d, l)) xs a.0 b.1),
   apart_restamped n guid value stamp xs b.1 a.1,
 )
 
-restamped_below : (n : ℕ) (guid : List ℕ) (value stamp last : ℕ) (i : Interface) → stamp ≤ last → i.stamp ≤ last → (restamped n guid value stamp i).stamp ≤ last
-restamped_below n guid value stamp last i k l = elim (cases_Bool (is_at n guid i)) [
-  | inl t ↦ rw t k
-  | inr t ↦ rw t l
+restamped_below : (n : ℕ) (guid : List ℕ) (value stamp : ℕ) (i : Interface) → i.stamp < stamp → (restamped n guid value stamp i).stamp ≤ stamp
+restamped_below n guid value stamp i l = elim (cases_Bool (is_at n guid i)) [
+  | inl t ↦ rw t (omega arith)
+  | inr t ↦ rw t (omega (arith, l))
 ]
 
-pub below_restamped : (n : ℕ) (guid : List ℕ) (value stamp last : ℕ) (xs : List Interface) → stamp ≤ last → AllByRecursion (λ i. i.stamp ≤ last) xs → AllByRecursion (λ i. i.stamp ≤ last) (map (restamped n guid value stamp) xs)
-below_restamped n guid value stamp last xs k b =
-    all_mapped (λ i. i.stamp ≤ last) (λ i. i.stamp ≤ last) (restamped n guid value stamp) (λ i l. restamped_below n guid value stamp last i k l) xs b
+pub below_restamped : (n : ℕ) (guid : List ℕ) (value stamp : ℕ) (xs : List Interface) → AllByRecursion (λ i. i.stamp < stamp) xs → AllByRecursion (λ i. i.stamp ≤ stamp) (map (restamped n guid value stamp) xs)
+below_restamped n guid value stamp xs b =
+    all_mapped (λ i. i.stamp ≤ stamp) (λ i. i.stamp < stamp) (restamped n guid value stamp) (λ i l. restamped_below n guid value stamp i l) xs b

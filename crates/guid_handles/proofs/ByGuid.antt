@@ -9,11 +9,10 @@ use Rattle.guid_handles.specs.HandleTables.{same_guid, is_at}
 use Rattle.guid_handles.specs.HandleChanges.{restamped}
 use Rattle.guid_handles.specs.Sorting.{Ascending}
 use Rattle.guid_handles.specs.Indexes.{Group, SetsStamp, stamp_at}
-use Rattle.guid_handles.specs.TableSteps.{IsAlone}
 use Rattle.guid_handles.specs.Stores.{AreApart, HaveStamps}
-use Rattle.guid_handles.proofs.SortedLists.{all_map, find_filter, find_map, find_push_new, find_push_other}
+use Rattle.guid_handles.proofs.SortedLists.{find_filter, find_map, find_push_new, find_push_other}
 use Rattle.guid_handles.proofs.GuidOrder.{same_guid-true}
-use Rattle.guid_handles.proofs.Indexed.{at_handle, at_guid, restamped_handle, restamped_guid, turned}
+use Rattle.guid_handles.proofs.Indexed.{at_handle, at_guid, restamped_handle, restamped_guid}
 use Rattle.guid_handles.proofs.Grouped.{is_same}
 use Rattle.guid_handles.proofs.Filed.{at_other}
 
@@ -81,29 +80,23 @@ stamps_changed is groups gs n guid value to x there c h k m =
         let g : is_at n guid y ≡ false = not_at (is_at n guid y) (at_other n m guid k y o (finds (is_at m k) is y e)) in
         rw g refl
 
--- the interface that is found is the only one of its kind, and has a stamp of its own
-pub found_alone : (n : ℕ) (guid : List ℕ) (x : Interface) (is : List Interface) → Ascending AreApart is → find (is_at n guid) is ≡ Some x → AllByRecursion (IsAlone n guid x) is
-found_alone n guid x [] a e = tt
-found_alone n guid x (y ∷ ys) a e = elim (cases_Bool (is_at n guid y)) [
+-- with its own value and stamp once more an interface is as it was
+pub own_again : (n : ℕ) (guid : List ℕ) (value stamp : ℕ) (x : Interface) (is : List Interface) → Ascending AreApart is → find (is_at n guid) is ≡ Some x
+    → map (restamped n guid x.value x.stamp) (map (restamped n guid value stamp) is) ≡ is
+own_again n guid value stamp x [] a e = refl
+own_again n guid value stamp x (y ∷ ys) a e = elim (cases_Bool (is_at n guid y)) [
   | inl t ↦
-      let s : y ≡ x = same_Some y x (rw t at e) in (
-        (λ k. s, λ f. let w : true ≡ false = sym t ∙ f in cc),
-        all_map (AreApart y) (IsAlone n guid x)
-            (λ j d. (
-              λ k. let v : is_at j.handle j.guid y ≡ true = rw (at_handle n guid j k, at_guid n guid j k) t in let w : true ≡ false = sym v ∙ d.0 in cc,
-              λ f. turned j.stamp x.stamp ∙ sym (ap (λ (i : Interface). i.stamp == j.stamp) s) ∙ d.1,
-            )) ys a.0,
-      )
-  | inr f ↦
-      let k : find (is_at n guid) ys ≡ Some x = rw f at e in (
-        (λ t. let w : true ≡ false = sym t ∙ f in cc, λ g. apart_from y ys a.0 k),
-        found_alone n guid x ys a.1 k,
-      )
+      let s : y ≡ x = same_Some y x (rw t at e) in
+      rw t (rw t (rw (← s) (ap (λ (is : List Interface). y ∷ is) (none_again ys a.0 t))))
+  | inr f ↦ rw f (rw f (ap (λ (is : List Interface). y ∷ is) (own_again n guid value stamp x ys a.1 (rw f at e))))
 ]
   where
-    apart_from : (y : Interface) (zs : List Interface) → AllByRecursion (AreApart y) zs → find (is_at n guid) zs ≡ Some x → (y.stamp == x.stamp) ≡ false
-    apart_from y [] b k = cc
-    apart_from y (z ∷ zs) b k = elim (cases_Bool (is_at n guid z)) [
-      | inl t ↦ let s : z ≡ x = same_Some z x (rw t at k) in sym (ap (λ (i : Interface). y.stamp == i.stamp) s) ∙ b.0.1
-      | inr f ↦ apart_from y zs b.1 (rw f at k)
+    none_again : (zs : List Interface) → AllByRecursion (AreApart y) zs → is_at n guid y ≡ true
+        → map (restamped n guid x.value x.stamp) (map (restamped n guid value stamp) zs) ≡ zs
+    none_again [] b t = refl
+    none_again (z ∷ zs) b t = elim (cases_Bool (is_at n guid z)) [
+      | inl u ↦
+          let v : is_at z.handle z.guid y ≡ true = rw (at_handle n guid z u, at_guid n guid z u) t in
+          let w : true ≡ false = sym v ∙ b.0.0 in cc
+      | inr f ↦ rw f (rw f (ap (λ (is : List Interface). z ∷ is) (none_again zs b.1 t)))
     ]

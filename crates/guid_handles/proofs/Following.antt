@@ -119,19 +119,19 @@ of_stamp : (o : Option Interface) (s : ℕ) → option_map (λ i. i.stamp) o ≡
 of_stamp None s e = absurd cc
 of_stamp (Some i) s e = (i, refl, same_Some i.stamp s e)
 
-module _ (rows : List Row) (slots : List (Option Record)) (groups : List Group) (number stamp : ℕ) (s : IsStore rows slots groups number stamp) where
-  stamp_of : (guid : List ℕ) (n : ℕ) (j : Interface) → find (is_at n guid) (installed_until stamp slots) ≡ Some j → stamp_at groups guid n ≡ Some j.stamp
+module _ (rows : List Row) (slots : List (Option Record)) (groups : List Group) (number stamp order : ℕ) (s : IsStore rows slots groups number stamp order) where
+  stamp_of : (guid : List ℕ) (n : ℕ) (j : Interface) → find (is_at n guid) (installed_until order slots) ≡ Some j → stamp_at groups guid n ≡ Some j.stamp
   stamp_of guid n j e = s.stamps guid n ∙ ap (option_map (λ (i : Interface). i.stamp)) e
 
   -- the interface that a group has next is the next of all
-  pub next_listed : (guid : List ℕ) (mark : ℕ) (r : Option (ℕ × ℕ)) → IsNext mark (stamp_at groups guid) r → r ≡ next_after (table_of rows slots number stamp) guid mark
+  pub next_listed : (guid : List ℕ) (mark : ℕ) (r : Option (ℕ × ℕ)) → IsNext mark (stamp_at groups guid) r → r ≡ next_after (table_of rows slots number stamp order) guid mark
   next_listed guid mark None h =
-      let is : List Interface = installed_until stamp slots in
+      let is : List Interface = installed_until order slots in
       ap (option_map {U = ℕ × ℕ} (λ (i : Interface). (i.handle, i.stamp)))
       (next_is guid mark is s.table.apart None (earliest (filter (is_after guid mark) is))
       (λ n j f p. let w : true ≡ false = sym (and_parts (is_of guid j) (nat_lt mark j.stamp) p).1 ∙ h n j.stamp (stamp_of guid n j f) in cc) refl)
   next_listed guid mark (Some p) h =
-      let is : List Interface = installed_until stamp slots in
+      let is : List Interface = installed_until order slots in
       let i = of_stamp (find (is_at p.0 guid) is) p.1 (sym (s.stamps guid p.0) ∙ h.0) in
       let at : is_at p.0 guid i.0 ≡ true = (found_one (λ x. Unit {0}) (is_at p.0 guid) is i.0 (all_of (λ x. Unit {0}) (λ x. tt) is) i.1).0 in
       let handle : i.0.handle ≡ p.0 = at_handle p.0 guid i.0 at in
@@ -147,10 +147,10 @@ module _ (rows : List Row) (slots : List (Option Record)) (groups : List Group) 
       paired p i a b = rw (a, b) refl
 
   -- no interface is next after the last stamp
-  pub none_later : (guid : List ℕ) (mark : ℕ) → stamp ≤ mark → None ≡ next_after (table_of rows slots number stamp) guid mark
+  pub none_later : (guid : List ℕ) (mark : ℕ) → stamp ≤ mark → None ≡ next_after (table_of rows slots number stamp order) guid mark
   none_later guid mark l = next_listed guid mark None (λ n t e.
-      let i = of_stamp (find (is_at n guid) (installed_until stamp slots)) t (sym (s.stamps guid n) ∙ e) in
-      let under : i.0.stamp ≤ stamp = (found_one (λ x. x.stamp ≤ stamp) (is_at n guid) (installed_until stamp slots) i.0 s.table.below i.1).1 in
+      let i = of_stamp (find (is_at n guid) (installed_until order slots)) t (sym (s.stamps guid n) ∙ e) in
+      let under : i.0.stamp ≤ stamp = (found_one (λ x. x.stamp ≤ stamp) (is_at n guid) (installed_until order slots) i.0 s.table.below i.1).1 in
       elim (cases_Bool (nat_lt mark t)) [
         | inl k ↦ absurd (omega (arith, ltb-true mark t k, under, i.2, l))
         | inr f ↦ f

@@ -1,5 +1,5 @@
 -- The interfaces in slots in order of installation, once one slot has changed.
-use Rattle.std.proofs.Common.{add-one, ◌≡◌, ◌≢◌, ℕ, zero, suc, ◌+◌, ◌≤◌, ◌==◌, Bool, true, false, List, [], ◌∷◌, ◌++◌, map, Option, Some, None, inl, inr, refl, sym, ap, ◌∙◌, arith, append-nil}
+use Rattle.std.proofs.Common.{add-one, ◌≡◌, ◌≢◌, ℕ, zero, suc, ◌+◌, ◌≤◌, ◌==◌, Bool, true, false, List, [], ◌∷◌, ◌++◌, map, Option, Some, None, inl, inr, refl, sym, ap, ◌∙◌, arith}
 use Rattle.std.specs.List.{filter}
 use Rattle.std.proofs.lemmas.Bool.{cases_Bool, cases_eq, eq-eqb, ne_eqb}
 use Rattle.std.proofs.lemmas.Option.{same_Some}
@@ -16,62 +16,62 @@ pub record GoesByItems (f : List Interface → List Interface) : Type 0 where
   pub nil : f [] ≡ []
   pub append : (xs ys : List Interface) → f (xs ++ ys) ≡ f xs ++ f ys
 
-with_through : (f : List Interface → List Interface) → GoesByItems f → (stamp : ℕ) (old new : List (Option Record))
-    → ((j : ℕ) → picked stamp (record_at new j) ≡ f (picked stamp (record_at old j))) → installed_with stamp new ≡ f (installed_with stamp old)
-with_through f s stamp [] [] h = sym s.nil
-with_through f s stamp (o ∷ os) [] h =
-    let e : f (picked stamp o) ≡ [] = sym (h 0) in
-    rw (s.append (picked stamp o) (installed_with stamp os)) (rw e (with_through f s stamp os [] (λ j. h (suc j))))
-with_through f s stamp [] (p ∷ ps) h =
-    let e : picked stamp p ≡ [] = h 0 ∙ s.nil in
-    rw e (with_through f s stamp [] ps (λ j. h (suc j)))
-with_through f s stamp (o ∷ os) (p ∷ ps) h =
-    let e : picked stamp p ≡ f (picked stamp o) = h 0 in
-    rw (s.append (picked stamp o) (installed_with stamp os)) (rw e (ap (λ r. f (picked stamp o) ++ r) (with_through f s stamp os ps (λ j. h (suc j)))))
+with_through : (f : List Interface → List Interface) → GoesByItems f → (order : ℕ) (old new : List (Option Record))
+    → ((j : ℕ) → picked order (record_at new j) ≡ f (picked order (record_at old j))) → installed_with order new ≡ f (installed_with order old)
+with_through f s order [] [] h = sym s.nil
+with_through f s order (o ∷ os) [] h =
+    let e : f (picked order o) ≡ [] = sym (h 0) in
+    rw (s.append (picked order o) (installed_with order os)) (rw e (with_through f s order os [] (λ j. h (suc j))))
+with_through f s order [] (p ∷ ps) h =
+    let e : picked order p ≡ [] = h 0 ∙ s.nil in
+    rw e (with_through f s order [] ps (λ j. h (suc j)))
+with_through f s order (o ∷ os) (p ∷ ps) h =
+    let e : picked order p ≡ f (picked order o) = h 0 in
+    rw (s.append (picked order o) (installed_with order os)) (rw e (ap (λ r. f (picked order o) ++ r) (with_through f s order os ps (λ j. h (suc j)))))
 
 until_through : (f : List Interface → List Interface) → GoesByItems f → (last : ℕ) (old new : List (Option Record))
-    → ((stamp j : ℕ) → stamp ≤ last → picked stamp (record_at new j) ≡ f (picked stamp (record_at old j))) → installed_until last new ≡ f (installed_until last old)
+    → ((order j : ℕ) → order ≤ last → picked order (record_at new j) ≡ f (picked order (record_at old j))) → installed_until last new ≡ f (installed_until last old)
 until_through f s zero old new h = sym s.nil
 until_through f s (suc last) old new h =
     rw (s.append (installed_until last old) (installed_with (suc last) old))
-    (rw (until_through f s last old new (λ stamp j l. h stamp j (omega (arith, l))))
+    (rw (until_through f s last old new (λ order j l. h order j (omega (arith, l))))
     (rw (with_through f s (suc last) old new (λ j. h (suc last) j (omega arith))) refl))
 
-with_none : (stamp : ℕ) (slots : List (Option Record)) → ((j : ℕ) → picked stamp (record_at slots j) ≡ []) → installed_with stamp slots ≡ []
-with_none stamp [] h = refl
-with_none stamp (o ∷ os) h = let e : picked stamp o ≡ [] = h 0 in rw e (with_none stamp os (λ j. h (suc j)))
+with_none : (order : ℕ) (slots : List (Option Record)) → ((j : ℕ) → picked order (record_at slots j) ≡ []) → installed_with order slots ≡ []
+with_none order [] h = refl
+with_none order (o ∷ os) h = let e : picked order o ≡ [] = h 0 in rw e (with_none order os (λ j. h (suc j)))
 
-with_one : (stamp : ℕ) (slots : List (Option Record)) (key : ℕ) (i : Interface) → picked stamp (record_at slots key) ≡ i ∷ [] → ((j : ℕ) → j ≢ key → picked stamp (record_at slots j) ≡ [])
-    → installed_with stamp slots ≡ i ∷ []
-with_one stamp [] key i h others = absurd cc
-with_one stamp (o ∷ os) zero i h others =
-    let e : picked stamp o ≡ i ∷ [] = h in
-    rw e (ap (λ r. i ∷ r) (with_none stamp os (λ j. others (suc j) (λ w. omega (arith, w)))))
-with_one stamp (o ∷ os) (suc key) i h others =
-    let e : picked stamp o ≡ [] = others 0 (λ w. omega (arith, w)) in
-    rw e (with_one stamp os key i h (λ j d. others (suc j) (λ w. d (omega (arith, w)))))
+with_one : (order : ℕ) (slots : List (Option Record)) (key : ℕ) (i : Interface) → picked order (record_at slots key) ≡ i ∷ [] → ((j : ℕ) → j ≢ key → picked order (record_at slots j) ≡ [])
+    → installed_with order slots ≡ i ∷ []
+with_one order [] key i h others = absurd cc
+with_one order (o ∷ os) zero i h others =
+    let e : picked order o ≡ i ∷ [] = h in
+    rw e (ap (λ r. i ∷ r) (with_none order os (λ j. others (suc j) (λ w. omega (arith, w)))))
+with_one order (o ∷ os) (suc key) i h others =
+    let e : picked order o ≡ [] = others 0 (λ w. omega (arith, w)) in
+    rw e (with_one order os key i h (λ j d. others (suc j) (λ w. d (omega (arith, w)))))
 
 -- ---- one slot
 
-unpicked : (stamp : ℕ) (o : Option Record) → ((r : Record) → o ≡ Some r → r.installed ≢ stamp) → picked stamp o ≡ []
-unpicked stamp None h = refl
-unpicked stamp (Some r) h = let f : (r.installed == stamp) ≡ false = ne_eqb r.installed stamp (h r refl) in rw f refl
+unpicked : (order : ℕ) (o : Option Record) → ((r : Record) → o ≡ Some r → r.installed ≢ order) → picked order o ≡ []
+unpicked order None h = refl
+unpicked order (Some r) h = let f : (r.installed == order) ≡ false = ne_eqb r.installed order (h r refl) in rw f refl
 
-picked_gone : (q : Interface → Bool) (stamp : ℕ) (o : Option Record) → ((r : Record) → o ≡ Some r → q r.interface ≡ false) → [] ≡ filter q (picked stamp o)
-picked_gone q stamp None h = refl
-picked_gone q stamp (Some r) h = elim (cases_Bool (r.installed == stamp)) [
+picked_gone : (q : Interface → Bool) (order : ℕ) (o : Option Record) → ((r : Record) → o ≡ Some r → q r.interface ≡ false) → [] ≡ filter q (picked order o)
+picked_gone q order None h = refl
+picked_gone q order (Some r) h = elim (cases_Bool (r.installed == order)) [
   | inl t ↦ rw t (rw (h r refl) refl)
   | inr f ↦ rw f refl
 ]
 
-picked_kept : (q : Interface → Bool) (stamp : ℕ) (o : Option Record) → ((r : Record) → o ≡ Some r → q r.interface ≡ true) → picked stamp o ≡ filter q (picked stamp o)
-picked_kept q stamp None h = refl
-picked_kept q stamp (Some r) h = elim (cases_Bool (r.installed == stamp)) [
+picked_kept : (q : Interface → Bool) (order : ℕ) (o : Option Record) → ((r : Record) → o ≡ Some r → q r.interface ≡ true) → picked order o ≡ filter q (picked order o)
+picked_kept q order None h = refl
+picked_kept q order (Some r) h = elim (cases_Bool (r.installed == order)) [
   | inl t ↦ rw t (rw (h r refl) refl)
   | inr f ↦ rw f refl
 ]
 
--- the stamp of the installation and the interface, changed
+-- the number of the installation and the interface, changed
 abbrev pub tagged : (Interface → Interface) → Option Record → Option (ℕ × Interface)
 tagged f None = None
 tagged f (Some r) = Some (r.installed, f r.interface)
@@ -79,36 +79,32 @@ tagged f (Some r) = Some (r.installed, f r.interface)
 tag_parts : (p q : ℕ × Interface) → Some p ≡ Some q → (p.0 ≡ q.0) × (p.1 ≡ q.1)
 tag_parts p q e = (ap (λ t. t.0) (same_Some p q e), ap (λ t. t.1) (same_Some p q e))
 
-picked_changed : (f : Interface → Interface) (stamp : ℕ) (o new : Option Record) → tagged f o ≡ tagged (λ i. i) new
-    → picked stamp new ≡ map f (picked stamp o)
-picked_changed f stamp None None e = refl
-picked_changed f stamp None (Some r) e = absurd cc
-picked_changed f stamp (Some r) None e = absurd cc
-picked_changed f stamp (Some r) (Some s) e =
+picked_changed : (f : Interface → Interface) (order : ℕ) (o new : Option Record) → tagged f o ≡ tagged (λ i. i) new
+    → picked order new ≡ map f (picked order o)
+picked_changed f order None None e = refl
+picked_changed f order None (Some r) e = absurd cc
+picked_changed f order (Some r) None e = absurd cc
+picked_changed f order (Some r) (Some s) e =
     let both = tag_parts (r.installed, f r.interface) (s.installed, s.interface) e in
-    elim (cases_Bool (r.installed == stamp)) [
+    elim (cases_Bool (r.installed == order)) [
       | inl t ↦ rw (← both.0) (rw t (rw both.1 refl))
       | inr n ↦ rw (← both.0) (rw n refl)
     ]
 
 -- ---- changes
 
--- no interface was installed with a later stamp
+-- no interface was installed later
 abbrev pub AreBelow : ℕ → List (Option Record) → Type 0
 AreBelow last slots = (j : ℕ) (r : Record) → record_at slots j ≡ Some r → r.installed ≤ last
-
-pub until_later : (last : ℕ) (slots : List (Option Record)) → AreBelow last slots → installed_until (last + 1) slots ≡ installed_until last slots
-until_later last slots b =
-    rw add-one (rw (with_none (suc last) slots (λ j. unpicked (suc last) (record_at slots j) (λ r e w. omega (arith, b j r e, w)))) (append-nil (installed_until last slots)))
 
 -- an interface comes into an empty slot
 pub until_more : (last key : ℕ) (old new : List (Option Record)) (r : Record) → AreBelow last old → r.installed ≡ last + 1 → record_at old key ≡ None → record_at new key ≡ Some r
     → ((j : ℕ) → j ≢ key → record_at new j ≡ record_at old j) → installed_until (last + 1) new ≡ installed_until last old ++ r.interface ∷ []
 until_more last key old new r b fresh none there others =
     let earlier : installed_until last new ≡ installed_until last old = until_through (λ is. is) (record { nil = refl; append = λ xs ys. refl }) last old new
-    (λ stamp j l. elim (cases_eq j key) [
-      | inl e ↦ rw e (rw (none, there) (unpicked stamp (Some r) (λ s w d. let same : r ≡ s = cc in omega (arith, l, fresh, d, ap (λ (x : Record). x.installed) same))))
-      | inr d ↦ ap (picked stamp) (others j d)
+    (λ order j l. elim (cases_eq j key) [
+      | inl e ↦ rw e (rw (none, there) (unpicked order (Some r) (λ s w d. let same : r ≡ s = cc in omega (arith, l, fresh, d, ap (λ (x : Record). x.installed) same))))
+      | inr d ↦ ap (picked order) (others j d)
     ]) in
     let now : (r.installed == suc last) ≡ true = eq-eqb r.installed (suc last) (omega (arith, fresh)) in
     let one : installed_with (suc last) new ≡ r.interface ∷ [] = with_one (suc last) new key r.interface (rw there (rw now refl))
@@ -121,9 +117,9 @@ pub until_less : (q : Interface → Bool) (last key : ℕ) (old new : List (Opti
     → installed_until last new ≡ filter q (installed_until last old)
 until_less q last key old new own rest none others =
     until_through (filter q) (record { nil = refl; append = filter_append q }) last old new
-    (λ stamp j l. elim (cases_eq j key) [
-      | inl e ↦ rw e (rw none (picked_gone q stamp (record_at old key) own))
-      | inr d ↦ rw (others j d) (picked_kept q stamp (record_at old j) (λ r. rest j r d))
+    (λ order j l. elim (cases_eq j key) [
+      | inl e ↦ rw e (rw none (picked_gone q order (record_at old key) own))
+      | inr d ↦ rw (others j d) (picked_kept q order (record_at old j) (λ r. rest j r d))
     ])
 
 -- the interface in a slot changes
@@ -133,9 +129,9 @@ pub until_changed : (f : Interface → Interface) (last key : ℕ) (old new : Li
     → installed_until last new ≡ map f (installed_until last old)
 until_changed f last key old new own rest others =
     until_through (map f) (record { nil = refl; append = map_append f }) last old new
-    (λ stamp j l. elim (cases_eq j key) [
-      | inl e ↦ rw e (picked_changed f stamp (record_at old key) (record_at new key) own)
-      | inr d ↦ rw (others j d) (picked_changed f stamp (record_at old j) (record_at old j) (unchanged f (record_at old j) (λ r. rest j r d)))
+    (λ order j l. elim (cases_eq j key) [
+      | inl e ↦ rw e (picked_changed f order (record_at old key) (record_at new key) own)
+      | inr d ↦ rw (others j d) (picked_changed f order (record_at old j) (record_at old j) (unchanged f (record_at old j) (λ r. rest j r d)))
     ])
   where
     unchanged : (f : Interface → Interface) (o : Option Record) → ((r : Record) → o ≡ Some r → f r.interface ≡ r.interface)

@@ -1,5 +1,5 @@
 -- What is asked of a handle table, by how it is kept; and what its changes keep.
-use Rattle.std.proofs.Common.{◌≡◌, ◌≢◌, ℕ, zero, suc, ◌+◌, ◌-◌, ◌<◌, ◌≤◌, ◌==◌, nat_eq, not, Bool, true, false, List, [], ◌∷◌, ◌++◌, map, length, Option, Some, None, is_some, IfSome, inl, inr, refl, sym, ap, ◌∙◌, arith, append-nil, subst}
+use Rattle.std.proofs.Common.{◌≡◌, ◌≢◌, ℕ, zero, suc, ◌+◌, ◌-◌, ◌<◌, ◌≤◌, ◌==◌, nat_eq, not, Bool, true, false, List, [], ◌∷◌, ◌++◌, map, length, Option, Some, None, is_some, inl, inr, refl, sym, ap, ◌∙◌, arith, append-nil, subst}
 use Rattle.std.specs.List.{filter, find, list_any, slice_get, AllByRecursion, AllZip}
 use Rattle.std.specs.Option.{option_map, option_and_then}
 use Rattle.std.proofs.lemmas.Bool.{cases_Bool, cases_eq, ne_eqb, eq-eqb}
@@ -12,22 +12,23 @@ use Rattle.guid_handles.specs.declared.records.LiveHandle.{LiveHandle}
 use Rattle.guid_handles.specs.declared.records.Pair.{Pair}
 use Rattle.guid_handles.specs.declared.records.Record.{Record}
 use Rattle.guid_handles.specs.HandleTables.{HandleTable, numbers, same_guid, is_on, is_at, is_live, has_number, carries, holders_of}
-use Rattle.guid_handles.specs.HandleChanges.{IsHandleTable, max_handles, is_taken, has_guid_twice, restamped, with_interfaces, with_handle, without_handle}
+use Rattle.guid_handles.specs.HandleChanges.{IsHandleTable, max_handles, is_taken, has_guid_twice, restamped, with_interfaces, with_handle, with_value, without_handle}
 use Rattle.guid_handles.specs.Sorting.{Ascending}
 use Rattle.guid_handles.specs.Indexes.{Row, Group, ChangesKeys, AreOn, AreAbsent, HaveSameStamps, SetsStamp, lives, is_row_of, row_numbers, keys_of, keys_on, stamp_at}
 use Rattle.guid_handles.specs.Slots.{at_key, at_keys, is_key_of, record_at, installed_until, with_stamp}
-use Rattle.guid_handles.specs.TableSteps.{IsAlone, MayHave, put_at}
-use Rattle.guid_handles.specs.Stores.{AreApart, HaveInterfaces, IsStamped, IsStore, IsTable, key_at, table_of}
-use Rattle.guid_handles.proofs.SortedLists.{all_both, all_numbered, any_none, find_filter, find_push_other, those_among, filter_same, filter_whole, all_of, all_map, all_filter, any_found, any_last, any_member, filter_map_filter, filter_shorter, map_append, ascending_filter, find_none, found_none}
+use Rattle.guid_handles.specs.TableSteps.{rewritten}
+use Rattle.guid_handles.specs.Stores.{AreApart, HaveInterfaces, IsOrdered, IsStore, IsTable, Replaced, key_at, table_of}
+use Rattle.guid_handles.proofs.SortedLists.{all_both, all_numbered, any_none, find_filter, find_map, find_push_other, those_among, filter_same, filter_whole, all_of, all_map, all_filter, any_found, any_last, any_member, filter_map_filter, filter_shorter, map_append, ascending_filter, find_none, found_none}
 use Rattle.guid_handles.proofs.Filters.{filter_append, filter_inside, filter_swap, passed}
 use Rattle.guid_handles.proofs.GuidOrder.{and_false, same_guid-refl}
+use Rattle.guid_handles.proofs.Indexed.{restamped_guid, restamped_handle}
 use Rattle.guid_handles.proofs.Apart.{apart_more, apart_restamped, below_more, below_restamped}
 use Rattle.guid_handles.proofs.ProperChanges.{fewer_handles, fewer_interfaces, more_interfaces, one_more, with_stamps}
-use Rattle.guid_handles.proofs.Found.{among_own, carried_live, found_one, live_is}
+use Rattle.guid_handles.proofs.Found.{among_own, carried_live, live_is}
 use Rattle.guid_handles.proofs.Numbered.{find_lives, live_numbers}
-use Rattle.guid_handles.proofs.Slotted.{AreBelow, tagged, until_changed, until_later, until_less, until_more}
+use Rattle.guid_handles.proofs.Slotted.{AreBelow, tagged, until_changed, until_less, until_more}
 use Rattle.guid_handles.proofs.Grouped.{is_same, some_map}
-use Rattle.guid_handles.proofs.ByGuid.{found_alone, stamps_changed, stamps_less, stamps_more}
+use Rattle.guid_handles.proofs.ByGuid.{own_again, stamps_changed, stamps_less, stamps_more}
 use Rattle.guid_handles.proofs.Filed.{at_own, found_at, have_long, have_these, filed_changed, filed_less, filed_more, keyed_at, only_one}
 
 -- ---- tables
@@ -46,12 +47,27 @@ table_without_handle t n s = record {
   below = all_filter (λ i. i.stamp ≤ t.last_stamp) (λ i. not (is_on n i)) t.interfaces s.below;
 }
 
-table_put : (t : HandleTable) (n : ℕ) (guid : List ℕ) (value stamp : ℕ) → AllByRecursion (MayHave n guid stamp) t.interfaces → stamp ≤ t.last_stamp → IsTable t → IsTable (put_at n guid value stamp t)
-table_put t n guid value stamp may given s = record {
-  proper = with_stamps n guid value stamp t.last_stamp t s.proper;
-  apart = apart_restamped n guid value stamp t.interfaces may s.apart;
-  below = below_restamped n guid value stamp t.last_stamp t.interfaces given s.below;
-}
+-- an interface has a value and a new stamp
+pub table_replaced : (t : HandleTable) (n : ℕ) (guid : List ℕ) (value : ℕ) → IsTable t → IsTable (with_value n guid value t)
+table_replaced t n guid value s =
+    let earlier : AllByRecursion (λ i. i.stamp < t.last_stamp + 1) t.interfaces = all_map (λ i. i.stamp ≤ t.last_stamp) (λ i. i.stamp < t.last_stamp + 1) (λ i l. omega (arith, l)) t.interfaces s.below in
+    record {
+      proper = with_stamps n guid value (t.last_stamp + 1) (t.last_stamp + 1) t s.proper;
+      apart = apart_restamped n guid value (t.last_stamp + 1) t.interfaces earlier s.apart;
+      below = below_restamped n guid value (t.last_stamp + 1) t.interfaces earlier;
+    }
+
+-- with its own value and stamp, and the last stamp of before, the table is as it was
+pub as_before : (n : ℕ) (guid : List ℕ) (own : Interface) (last : ℕ) (before after : HandleTable) → Replaced n guid own last before after → rewritten n guid own.value own.stamp last after ≡ before
+as_before n guid own last before after r =
+    ap (rewritten n guid own.value own.stamp last) r.replaced
+    ∙ rw (own_again n guid r.value (before.last_stamp + 1) own before.interfaces r.table.apart r.there, ← r.last) refl
+
+pub still_carried : (n : ℕ) (guid : List ℕ) (own : Interface) (last : ℕ) (before after : HandleTable) → Replaced n guid own last before after → carries after guid n ≡ true
+still_carried n guid own last before after r =
+    ap (λ (t : HandleTable). carries t guid n) r.replaced
+    ∙ ap is_some (find_map (is_at n guid) (restamped n guid r.value (before.last_stamp + 1)) (λ y. rw (restamped_handle n guid r.value (before.last_stamp + 1) y, restamped_guid n guid r.value (before.last_stamp + 1) y) refl) before.interfaces
+    ∙ ap (option_map (restamped n guid r.value (before.last_stamp + 1))) r.there)
 
 table_with_interfaces : (t : HandleTable) (n : ℕ) (pairs : List (List ℕ × ℕ)) → IsTable t → is_live t n ≡ true → AreAbsent n pairs t.interfaces → has_guid_twice pairs ≡ false → IsTable (with_interfaces n pairs t)
 table_with_interfaces t n pairs s live absent once = record {
@@ -179,13 +195,9 @@ new_there : (n : ℕ) (guid : List ℕ) (value stamp : ℕ) (o : Option Record) 
 new_there n guid value stamp None h y e = absurd cc
 new_there n guid value stamp (Some r) h y e = subst (λ (i : Interface). is_at n guid i ≡ true) (same_Some (record r.interface { value = value; stamp = stamp }) y e) (h r refl)
 
-from_slot : (stamp value : ℕ) (o : Option Record) → ((p : Record) → o ≡ Some p → p.interface.stamp ≤ stamp) → (r : Record) → option_map (with_stamp value stamp) o ≡ Some r
-    → (p : Record) × (o ≡ Some p) × (p.installed ≡ r.installed) × (p.interface.stamp ≤ r.interface.stamp)
-from_slot stamp value None h r e = absurd cc
-from_slot stamp value (Some p) h r e =
-    let s : with_stamp value stamp p ≡ r = same_Some (with_stamp value stamp p) r e in
-    let l : p.interface.stamp ≤ stamp = h p refl in
-    (p, refl, ap (λ (x : Record). x.installed) s, omega (arith, l, ap (λ (x : Record). x.interface.stamp) s))
+from_slot : (stamp value : ℕ) (o : Option Record) → (r : Record) → option_map (with_stamp value stamp) o ≡ Some r → (p : Record) × (o ≡ Some p) × (p.installed ≡ r.installed)
+from_slot stamp value None r e = absurd cc
+from_slot stamp value (Some p) r e = (p, refl, ap (λ (x : Record). x.installed) (same_Some (with_stamp value stamp p) r e))
 
 pub any_counted : (p : Interface → Bool) (xs : List Interface) → not (length (filter p xs) == 0) ≡ list_any p xs
 any_counted p [] = refl
@@ -253,7 +265,7 @@ keys_without rows n m e =
     ]
 
 -- nothing is kept at first
-pub empty_store : IsStore [] [] [] 0 0
+pub empty_store : IsStore [] [] [] 0 0 0
 empty_store = record {
   table = record {
     proper = record { ascending = tt; given = tt; limit = omega arith; on_live = tt };
@@ -262,46 +274,39 @@ empty_store = record {
   };
   filed = record { by_handle = λ n. tt; in_row = λ key i e. absurd cc };
   stamps = λ guid n. refl;
-  stamped = λ key r e. absurd cc;
+  ordered = λ key r e. absurd cc;
 }
 
 -- ---- what is asked
 
-module _ (rows : List Row) (slots : List (Option Record)) (groups : List Group) (number stamp : ℕ) (s : IsStore rows slots groups number stamp) where
+module _ (rows : List Row) (slots : List (Option Record)) (groups : List Group) (number stamp order : ℕ) (s : IsStore rows slots groups number stamp order) where
   -- the interface at its key is the one that is asked for
-  pub stored_at : (n : ℕ) (guid : List ℕ) → find (is_at n guid) (installed_until stamp slots) ≡ option_and_then (at_key slots) (key_at slots rows guid n)
-  stored_at n guid = found_at (installed_until stamp slots) slots rows s.filed n guid
+  pub stored_at : (n : ℕ) (guid : List ℕ) → find (is_at n guid) (installed_until order slots) ≡ option_and_then (at_key slots) (key_at slots rows guid n)
+  stored_at n guid = found_at (installed_until order slots) slots rows s.filed n guid
 
-  -- a record in a slot is among the interfaces
-  pub slot_found : (key : ℕ) (i : Interface) → at_key slots key ≡ Some i → find (is_at i.handle i.guid) (installed_until stamp slots) ≡ Some i
-  slot_found key i e = stored_at i.handle i.guid ∙ ap (option_and_then (at_key slots)) (s.filed.in_row key i e) ∙ e
-
-  pub slots_below : AreBelow stamp slots
-  slots_below j r e =
-      let f = slot_found j r.interface (ap (option_map (λ (x : Record). x.interface)) e) in
-      let l : r.interface.stamp ≤ stamp = (found_one (λ i. i.stamp ≤ stamp) (is_at r.interface.handle r.interface.guid) (installed_until stamp slots) r.interface s.table.below f).1 in
-      omega (arith, l, (s.stamped j r e).1)
+  slots_below : AreBelow order slots
+  slots_below j r e = (s.ordered j r e).1
 
   -- an interface that is not there has no key
-  pub unkeyed : (n : ℕ) (guid : List ℕ) → find (is_at n guid) (installed_until stamp slots) ≡ None → key_at slots rows guid n ≡ None
+  pub unkeyed : (n : ℕ) (guid : List ℕ) → find (is_at n guid) (installed_until order slots) ≡ None → key_at slots rows guid n ≡ None
   unkeyed n guid e = none (key_at slots rows guid n) refl
     where
       none : (o : Option ℕ) → key_at slots rows guid n ≡ o → o ≡ None
       none None k = refl
       none (Some key) k =
-          let f = at_own (installed_until stamp slots) slots rows n guid key s.filed k in
+          let f = at_own (installed_until order slots) slots rows n guid key s.filed k in
           let w : Some f.0 ≡ None = sym (stored_at n guid ∙ ap (option_and_then (at_key slots)) k ∙ f.1) ∙ e in cc
 
   -- nor has it a stamp
-  pub unstamped : (n : ℕ) (guid : List ℕ) → find (is_at n guid) (installed_until stamp slots) ≡ None → stamp_at groups guid n ≡ None
+  pub unstamped : (n : ℕ) (guid : List ℕ) → find (is_at n guid) (installed_until order slots) ≡ None → stamp_at groups guid n ≡ None
   unstamped n guid e = s.stamps guid n ∙ ap (option_map (λ (i : Interface). i.stamp)) e
 
   -- the handles of a GUID are those that have a stamp in its group
-  pub by_guid : (guid hs : List ℕ) → Ascending (λ a b. a < b) hs → ((n : ℕ) → list_any (λ h. h == n) hs ≡ is_some (stamp_at groups guid n)) → hs ≡ holders_of (table_of rows slots number stamp) guid
+  pub by_guid : (guid hs : List ℕ) → Ascending (λ a b. a < b) hs → ((n : ℕ) → list_any (λ h. h == n) hs ≡ is_some (stamp_at groups guid n)) → hs ≡ holders_of (table_of rows slots number stamp order) guid
   by_guid guid hs ascending those =
-      let t : HandleTable = table_of rows slots number stamp in
+      let t : HandleTable = table_of rows slots number stamp order in
       let returned : (n : ℕ) → list_any (λ h. h == n) hs ≡ carries t guid n =
-      λ n. those n ∙ ap is_some (s.stamps guid n) ∙ some_map (λ (i : Interface). i.stamp) (find (is_at n guid) (installed_until stamp slots)) in
+      λ n. those n ∙ ap is_some (s.stamps guid n) ∙ some_map (λ (i : Interface). i.stamp) (find (is_at n guid) (installed_until order slots)) in
       sym (filter_same (carries t guid) (λ n. list_any (λ h. h == n) hs) (numbers t) (all_of (λ n. carries t guid n ≡ list_any (λ h. h == n) hs) (λ n. sym (returned n)) (numbers t))
       ∙ those_among (numbers t) hs s.table.proper.ascending ascending
       (all_map (λ h. list_any (λ k. nat_eq k h) hs ≡ true) (λ h. list_any (λ n. nat_eq n h) (numbers t) ≡ true)
@@ -310,63 +315,63 @@ module _ (rows : List Row) (slots : List (Option Record)) (groups : List Group) 
   -- ---- changes
 
   -- the interfaces at the keys of a handle
-  pub carried_at : (n : ℕ) → HaveInterfaces slots (keys_on rows n) (filter (is_on n) (installed_until stamp slots))
+  pub carried_at : (n : ℕ) → HaveInterfaces slots (keys_on rows n) (filter (is_on n) (installed_until order slots))
   carried_at n = s.filed.by_handle n
 
-  pub carried_these : (n : ℕ) → at_keys slots (keys_on rows n) ≡ filter (is_on n) (installed_until stamp slots)
-  carried_these n = have_these slots (keys_on rows n) (filter (is_on n) (installed_until stamp slots)) (carried_at n)
+  pub carried_these : (n : ℕ) → at_keys slots (keys_on rows n) ≡ filter (is_on n) (installed_until order slots)
+  carried_these n = have_these slots (keys_on rows n) (filter (is_on n) (installed_until order slots)) (carried_at n)
 
   -- keys are left in the row of a handle where an interface is on it
-  pub left_on : (n : ℕ) → not (length (keys_on rows n) == 0) ≡ list_any (is_on n) (installed_until stamp slots)
+  pub left_on : (n : ℕ) → not (length (keys_on rows n) == 0) ≡ list_any (is_on n) (installed_until order slots)
   left_on n =
-      rw (have_long slots (keys_on rows n) (filter (is_on n) (installed_until stamp slots)) (carried_at n))
-      (any_counted (is_on n) (installed_until stamp slots))
+      rw (have_long slots (keys_on rows n) (filter (is_on n) (installed_until order slots)) (carried_at n))
+      (any_counted (is_on n) (installed_until order slots))
 
   at_others : (new : List (Option Record)) (key : ℕ) → ((j : ℕ) → j ≢ key → record_at new j ≡ record_at slots j) → (j : ℕ) → j ≢ key → at_key new j ≡ at_key slots j
   at_others new key others j d = ap (option_map (λ r. r.interface)) (others j d)
 
   -- an interface comes
   pub stored_more : (rs : List Row) (new : List (Option Record)) (gs : List Group) (n : ℕ) (guid : List ℕ) (value key : ℕ)
-      → is_live (table_of rows slots number stamp) n ≡ true → find (is_at n guid) (installed_until stamp slots) ≡ None
+      → is_live (table_of rows slots number stamp order) n ≡ true → find (is_at n guid) (installed_until order slots) ≡ None
       → record_at slots key ≡ None
-      → record_at new key ≡ Some (record { interface = record { handle = n; guid = guid; value = value; stamp = stamp + 1 }; installed = stamp + 1 })
+      → record_at new key ≡ Some (record { interface = record { handle = n; guid = guid; value = value; stamp = stamp + 1 }; installed = order + 1 })
       → ((j : ℕ) → j ≢ key → record_at new j ≡ record_at slots j)
       → ChangesKeys n (λ ks. ks ++ key ∷ []) rows rs
       → SetsStamp guid n (Some (stamp + 1)) groups gs
-      → (table_of rs new number (stamp + 1) ≡ with_interfaces n ((guid, value) ∷ []) (table_of rows slots number stamp)) × IsStore rs new gs number (stamp + 1)
+      → (table_of rs new number (stamp + 1) (order + 1) ≡ with_interfaces n ((guid, value) ∷ []) (table_of rows slots number stamp order)) × IsStore rs new gs number (stamp + 1) (order + 1)
   stored_more rs new gs n guid value key live absent none there others c g =
       let i : Interface = record { handle = n; guid = guid; value = value; stamp = stamp + 1 } in
-      let more : installed_until (stamp + 1) new ≡ installed_until stamp slots ++ i ∷ [] =
-      until_more stamp key slots new (record { interface = i; installed = stamp + 1 }) slots_below refl none there others in
-      let same : table_of rs new number (stamp + 1) ≡ with_interfaces n ((guid, value) ∷ []) (table_of rows slots number stamp) = rw (c.lives, more) refl in (
+      let more : installed_until (order + 1) new ≡ installed_until order slots ++ i ∷ [] =
+      until_more order key slots new (record { interface = i; installed = order + 1 }) slots_below refl none there others in
+      let same : table_of rs new number (stamp + 1) (order + 1) ≡ with_interfaces n ((guid, value) ∷ []) (table_of rows slots number stamp order) = rw (c.lives, more) refl in (
         same,
         record {
-          table = subst IsTable (sym same) (table_with_interfaces (table_of rows slots number stamp) n ((guid, value) ∷ []) s.table live (absent, tt) refl);
-          filed = rw more (filed_more (installed_until stamp slots) slots new rows rs key i (ap (option_map (λ r. r.interface)) none) (ap (option_map (λ r. r.interface)) there)
+          table = subst IsTable (sym same) (table_with_interfaces (table_of rows slots number stamp order) n ((guid, value) ∷ []) s.table live (absent, tt) refl);
+          filed = rw more (filed_more (installed_until order slots) slots new rows rs key i (ap (option_map (λ r. r.interface)) none) (ap (option_map (λ r. r.interface)) there)
               (at_others new key others) c (unkeyed n guid absent) s.filed);
-          stamps = rw more (stamps_more (installed_until stamp slots) groups gs i absent g s.stamps);
-          stamped = λ j r e. elim (cases_eq j key) [
-            | inl w ↦ subst IsStamped (same_Some (record { interface = i; installed = stamp + 1 }) r (sym there ∙ ap (record_at new) (sym w) ∙ e)) (omega arith, omega arith)
-            | inr d ↦ s.stamped j r (sym (others j d) ∙ e)
+          stamps = rw more (stamps_more (installed_until order slots) groups gs i absent g s.stamps);
+          ordered = λ j r e. elim (cases_eq j key) [
+            | inl w ↦ subst (IsOrdered (order + 1)) (same_Some (record { interface = i; installed = order + 1 }) r (sym there ∙ ap (record_at new) (sym w) ∙ e)) (omega arith, omega arith)
+            | inr d ↦ let b = s.ordered j r (sym (others j d) ∙ e) in (b.0, omega (arith, b.1))
           ];
         },
       )
 
   -- the interface at the key of a GUID on a handle is of it, and no other is
   own_key : (n : ℕ) (guid : List ℕ) (key : ℕ) → key_at slots rows guid n ≡ Some key → (r : Record) → record_at slots key ≡ Some r → is_at n guid r.interface ≡ true
-  own_key n guid key there r e = keyed_at (installed_until stamp slots) slots rows n guid key s.filed there r.interface (ap (option_map (λ (x : Record). x.interface)) e)
+  own_key n guid key there r e = keyed_at (installed_until order slots) slots rows n guid key s.filed there r.interface (ap (option_map (λ (x : Record). x.interface)) e)
 
   other_key : (n : ℕ) (guid : List ℕ) (key : ℕ) → key_at slots rows guid n ≡ Some key → (j : ℕ) (r : Record) → j ≢ key → record_at slots j ≡ Some r → is_at n guid r.interface ≡ false
-  other_key n guid key there j r d e = only_one (installed_until stamp slots) slots rows n guid key s.filed there j r.interface d (ap (option_map (λ (x : Record). x.interface)) e)
+  other_key n guid key there j r d e = only_one (installed_until order slots) slots rows n guid key s.filed there j r.interface d (ap (option_map (λ (x : Record). x.interface)) e)
 
   -- the interface at a key is found by its GUID and its handle
-  pub keyed_record : (n : ℕ) (guid : List ℕ) (key : ℕ) → key_at slots rows guid n ≡ Some key → (r : Record) → record_at slots key ≡ Some r → find (is_at n guid) (installed_until stamp slots) ≡ Some r.interface
+  pub keyed_record : (n : ℕ) (guid : List ℕ) (key : ℕ) → key_at slots rows guid n ≡ Some key → (r : Record) → record_at slots key ≡ Some r → find (is_at n guid) (installed_until order slots) ≡ Some r.interface
   keyed_record n guid key there r e = stored_at n guid ∙ ap (option_and_then (at_key slots)) there ∙ ap (option_map (λ (x : Record). x.interface)) e
 
   -- a key is that of a record
   recorded : (n : ℕ) (guid : List ℕ) (key : ℕ) → key_at slots rows guid n ≡ Some key → (r : Record) × (record_at slots key ≡ Some r)
   recorded n guid key there =
-      let f = at_own (installed_until stamp slots) slots rows n guid key s.filed there in
+      let f = at_own (installed_until order slots) slots rows n guid key s.filed there in
       of_interface (record_at slots key) f.0 f.1
     where
       of_interface : (o : Option Record) (i : Interface) → option_map (λ r. r.interface) o ≡ Some i → (r : Record) × (o ≡ Some r)
@@ -388,86 +393,56 @@ module _ (rows : List Row) (slots : List (Option Record)) (groups : List Group) 
       → ((j : ℕ) → j ≢ key → record_at new j ≡ record_at slots j)
       → ChangesKeys n (filter (λ k. not (k == key))) rows rs
       → SetsStamp guid n None groups gs
-      → (table_of rs new number stamp ≡ record (table_of rows slots number stamp) { interfaces = filter (λ i. not (is_at n guid i)) (installed_until stamp slots) }) × IsStore rs new gs number stamp
+      → (table_of rs new number stamp order ≡ record (table_of rows slots number stamp order) { interfaces = filter (λ i. not (is_at n guid i)) (installed_until order slots) }) × IsStore rs new gs number stamp order
   stored_less rs new gs n guid key there none others c g =
       let q : Interface → Bool = λ i. not (is_at n guid i) in
-      let less : installed_until stamp new ≡ filter q (installed_until stamp slots) =
-      until_less q stamp key slots new (λ r e. rw (own_key n guid key there r e) refl) (λ j r d e. rw (other_key n guid key there j r d e) refl) none others in
-      let same : table_of rs new number stamp ≡ record (table_of rows slots number stamp) { interfaces = filter q (installed_until stamp slots) } = rw (c.lives, less) refl in (
+      let less : installed_until order new ≡ filter q (installed_until order slots) =
+      until_less q order key slots new (λ r e. rw (own_key n guid key there r e) refl) (λ j r d e. rw (other_key n guid key there j r d e) refl) none others in
+      let same : table_of rs new number stamp order ≡ record (table_of rows slots number stamp order) { interfaces = filter q (installed_until order slots) } = rw (c.lives, less) refl in (
         same,
         record {
-          table = subst IsTable (sym same) (table_without_interface (table_of rows slots number stamp) n guid s.table);
-          filed = rw less (filed_less (installed_until stamp slots) slots new rows rs n guid key there (ap (option_map (λ r. r.interface)) none) (at_others new key others) c s.filed);
-          stamps = rw less (stamps_less (installed_until stamp slots) groups gs n guid g s.stamps);
-          stamped = λ j r e. elim (cases_eq j key) [
+          table = subst IsTable (sym same) (table_without_interface (table_of rows slots number stamp order) n guid s.table);
+          filed = rw less (filed_less (installed_until order slots) slots new rows rs n guid key there (ap (option_map (λ r. r.interface)) none) (at_others new key others) c s.filed);
+          stamps = rw less (stamps_less (installed_until order slots) groups gs n guid g s.stamps);
+          ordered = λ j r e. elim (cases_eq j key) [
             | inl w ↦ let z : Some r ≡ None = sym e ∙ ap (record_at new) w ∙ none in cc
-            | inr d ↦ s.stamped j r (sym (others j d) ∙ e)
+            | inr d ↦ s.ordered j r (sym (others j d) ∙ e)
           ];
         },
       )
 
   -- where no interface is of the GUID on the handle none goes
-  pub stored_none : (n : ℕ) (guid : List ℕ) → key_at slots rows guid n ≡ None → installed_until stamp slots ≡ filter (λ i. not (is_at n guid i)) (installed_until stamp slots)
+  pub stored_none : (n : ℕ) (guid : List ℕ) → key_at slots rows guid n ≡ None → installed_until order slots ≡ filter (λ i. not (is_at n guid i)) (installed_until order slots)
   stored_none n guid none =
-      sym (filter_whole (is_at n guid) (installed_until stamp slots) (found_none (is_at n guid) (installed_until stamp slots) (stored_at n guid ∙ ap (option_and_then (at_key slots)) none)))
+      sym (filter_whole (is_at n guid) (installed_until order slots) (found_none (is_at n guid) (installed_until order slots) (stored_at n guid ∙ ap (option_and_then (at_key slots)) none)))
 
-  -- an interface takes a value and a stamp
-  pub stored_put : (new : List (Option Record)) (gs : List Group) (n : ℕ) (guid : List ℕ) (value to key : ℕ) → AllByRecursion (MayHave n guid to) (installed_until stamp slots) → to ≤ stamp
+  -- an interface takes a value and a stamp, and a stamp is the last
+  pub stored_rewritten : (new : List (Option Record)) (gs : List Group) (n : ℕ) (guid : List ℕ) (value to last key : ℕ) → IsTable (rewritten n guid value to last (table_of rows slots number stamp order))
       → key_at slots rows guid n ≡ Some key
       → record_at new key ≡ option_map (with_stamp value to) (record_at slots key) → ((j : ℕ) → j ≢ key → record_at new j ≡ record_at slots j)
       → SetsStamp guid n (Some to) groups gs
-      → (table_of rows new number stamp ≡ put_at n guid value to (table_of rows slots number stamp)) × IsStore rows new gs number stamp
-  stored_put new gs n guid value to key may given there own others g =
+      → (table_of rows new number last order ≡ rewritten n guid value to last (table_of rows slots number stamp order)) × IsStore rows new gs number last order
+  stored_rewritten new gs n guid value to last key table there own others g =
       let x = recorded n guid key there in
       let f : Interface → Interface = restamped n guid value to in
-      let kept : (j : ℕ) (r : Record) → record_at new j ≡ Some r → (p : Record) × (record_at slots j ≡ Some p) × (p.installed ≡ r.installed) × (p.interface.stamp ≤ r.interface.stamp) =
+      let kept : (j : ℕ) (r : Record) → record_at new j ≡ Some r → (p : Record) × (record_at slots j ≡ Some p) × (p.installed ≡ r.installed) =
       λ j r e. elim (cases_eq j key) [
-        | inl w ↦ rw w (from_slot to value (record_at slots key) (λ p k. not_above p k) r (sym own ∙ ap (record_at new) (sym w) ∙ e))
-        | inr d ↦ (r, sym (others j d) ∙ e, refl, omega arith)
+        | inl w ↦ rw w (from_slot to value (record_at slots key) r (sym own ∙ ap (record_at new) (sym w) ∙ e))
+        | inr d ↦ (r, sym (others j d) ∙ e, refl)
       ] in
-      let changed : installed_until stamp new ≡ map f (installed_until stamp slots) =
-      until_changed f stamp key slots new (changed_slot n guid value to (record_at slots key) (λ r e. own_key n guid key there r e) ∙ ap (tagged (λ i. i)) (sym own))
+      let changed : installed_until order new ≡ map f (installed_until order slots) =
+      until_changed f order key slots new (changed_slot n guid value to (record_at slots key) (λ r e. own_key n guid key there r e) ∙ ap (tagged (λ i. i)) (sym own))
       (λ j r d e. rw (other_key n guid key there j r d e) refl) others in
-      let same : table_of rows new number stamp ≡ put_at n guid value to (table_of rows slots number stamp) = rw changed refl in (
+      let same : table_of rows new number last order ≡ rewritten n guid value to last (table_of rows slots number stamp order) = rw changed refl in (
         same,
         record {
-          table = subst IsTable (sym same) (table_put (table_of rows slots number stamp) n guid value to may given s.table);
-          filed = rw changed (filed_changed (installed_until stamp slots) slots new rows n guid value to key there
+          table = subst IsTable (sym same) table;
+          filed = rw changed (filed_changed (installed_until order slots) slots new rows n guid value to key there
               (λ y e. ap (option_map (λ r. r.interface)) own ∙ changed_there n guid value to (record_at slots key) (λ r k. own_key n guid key there r k) y e)
               (λ y e. new_there n guid value to (record_at slots key) (λ r k. own_key n guid key there r k) y (sym (ap (option_map (λ r. r.interface)) own) ∙ e))
               (at_others new key others) s.filed);
-          stamps = rw changed (stamps_changed (installed_until stamp slots) groups gs n guid value to x.0.interface (keyed_record n guid key there x.0 x.1) g s.stamps);
-          stamped = λ j r e. let k = kept j r e in let b = s.stamped j k.0 k.1 in (omega (arith, b.0, k.2), omega (arith, b.1, k.2, k.3));
-        },
-      )
-    where
-      not_above : (r : Record) → record_at slots key ≡ Some r → r.interface.stamp ≤ to
-      not_above r e =
-          (found_one (MayHave n guid to) (is_at n guid) (installed_until stamp slots) r.interface may (keyed_record n guid key there r e)).1.0 (own_key n guid key there r e)
-
-  -- the interface of a GUID on a handle, if there is one
-  pub alone_if : (n : ℕ) (guid : List ℕ) (o : Option Interface) → o ≡ find (is_at n guid) (installed_until stamp slots) → IfSome o (λ x. AllByRecursion (IsAlone n guid x) (installed_until stamp slots))
-  alone_if n guid None e = tt
-  alone_if n guid (Some x) e = found_alone n guid x (installed_until stamp slots) s.table.apart (sym e)
-
-  pub given_if : (n : ℕ) (guid : List ℕ) (o : Option Interface) → o ≡ find (is_at n guid) (installed_until stamp slots) → IfSome o (λ x. x.stamp ≤ stamp)
-  given_if n guid None e = tt
-  given_if n guid (Some x) e = (found_one (λ i. i.stamp ≤ stamp) (is_at n guid) (installed_until stamp slots) x s.table.below (sym e)).1
-
-  -- a stamp is given
-  pub stored_given : (table_of rows slots number (stamp + 1) ≡ record (table_of rows slots number stamp) { last_stamp = stamp + 1 }) × IsStore rows slots groups number (stamp + 1)
-  stored_given =
-      let same : installed_until (stamp + 1) slots ≡ installed_until stamp slots = until_later stamp slots slots_below in (
-        rw same refl,
-        record {
-          table = record {
-            proper = record { ascending = s.table.proper.ascending; given = s.table.proper.given; limit = s.table.proper.limit; on_live = rw same s.table.proper.on_live };
-            apart = rw same s.table.apart;
-            below = rw same (all_map (λ i. i.stamp ≤ stamp) (λ i. i.stamp ≤ stamp + 1) (λ i l. omega (arith, l)) (installed_until stamp slots) s.table.below);
-          };
-          filed = rw same s.filed;
-          stamps = rw same s.stamps;
-          stamped = s.stamped;
+          stamps = rw changed (stamps_changed (installed_until order slots) groups gs n guid value to x.0.interface (keyed_record n guid key there x.0 x.1) g s.stamps);
+          ordered = λ j r e. let k = kept j r e in let b = s.ordered j k.0 k.1 in (omega (arith, b.0, k.2), omega (arith, b.1, k.2));
         },
       )
 
@@ -478,28 +453,28 @@ module _ (rows : List Row) (slots : List (Option Record)) (groups : List Group) 
       subst (AllByRecursion (λ n. n < number + 1)) (live_numbers rows)
       (all_map (λ m. (0 < m) × (m ≤ number)) (λ m. m < number + 1) (λ m h. omega (arith, h.1)) (map (λ h. h.number) (lives rows)) s.table.proper.given)
 
-  pub live_row : (n : ℕ) → is_live (table_of rows slots number stamp) n ≡ true → is_some (find (is_row_of n) rows) ≡ true
+  pub live_row : (n : ℕ) → is_live (table_of rows slots number stamp order) n ≡ true → is_some (find (is_row_of n) rows) ≡ true
   live_row n l = sym (ap is_some (find_lives n rows) ∙ some_map (λ r. r.live) (find (is_row_of n) rows)) ∙ l
 
   -- a handle comes
   pub stored_handle : (maker : Option Pair) → length (lives rows) < max_handles
-      → (table_of (rows ++ record { live = record { number = number + 1; maker = maker }; keys = [] } ∷ []) slots (number + 1) stamp ≡ with_handle maker (table_of rows slots number stamp))
-      × IsStore (rows ++ record { live = record { number = number + 1; maker = maker }; keys = [] } ∷ []) slots groups (number + 1) stamp
+      → (table_of (rows ++ record { live = record { number = number + 1; maker = maker }; keys = [] } ∷ []) slots (number + 1) stamp order ≡ with_handle maker (table_of rows slots number stamp order))
+      × IsStore (rows ++ record { live = record { number = number + 1; maker = maker }; keys = [] } ∷ []) slots groups (number + 1) stamp order
   stored_handle maker room =
       let live : LiveHandle = record { number = number + 1; maker = maker } in
-      let same : table_of (rows ++ record { live = live; keys = [] } ∷ []) slots (number + 1) stamp ≡ with_handle maker (table_of rows slots number stamp) =
+      let same : table_of (rows ++ record { live = live; keys = [] } ∷ []) slots (number + 1) stamp order ≡ with_handle maker (table_of rows slots number stamp order) =
       rw (map_append (λ r. r.live) rows (record { live = live; keys = [] } ∷ [])) refl in (
         same,
         record {
-          table = subst IsTable (sym same) (table_with_handle (table_of rows slots number stamp) maker s.table room);
+          table = subst IsTable (sym same) (table_with_handle (table_of rows slots number stamp order) maker s.table room);
           filed = record { by_handle = λ n. rw (keys_push rows live n) (s.filed.by_handle n); in_row = λ key i e. ap (find (is_key_of slots i.guid)) (keys_push rows live i.handle) ∙ s.filed.in_row key i e };
           stamps = s.stamps;
-          stamped = s.stamped;
+          ordered = s.ordered;
         },
       )
 
-  bare_keys : (n : ℕ) → list_any (is_on n) (installed_until stamp slots) ≡ false → keys_on rows n ≡ []
-  bare_keys n b = no_keys (keys_on rows n) (none_of_them (installed_until stamp slots) b) (s.filed.by_handle n)
+  bare_keys : (n : ℕ) → list_any (is_on n) (installed_until order slots) ≡ false → keys_on rows n ≡ []
+  bare_keys n b = no_keys (keys_on rows n) (none_of_them (installed_until order slots) b) (s.filed.by_handle n)
     where
       none_of_them : (is : List Interface) → list_any (is_on n) is ≡ false → filter (is_on n) is ≡ []
       none_of_them [] e = refl
@@ -513,27 +488,27 @@ module _ (rows : List Row) (slots : List (Option Record)) (groups : List Group) 
       no_keys (k ∷ ks) e h = absurd (rw e at h)
 
   -- a handle without interfaces goes
-  pub stored_bare : (n : ℕ) → list_any (is_on n) (installed_until stamp slots) ≡ false
-      → (table_of (filter (λ r. not (is_row_of n r)) rows) slots number stamp ≡ without_handle n (table_of rows slots number stamp)) × IsStore (filter (λ r. not (is_row_of n r)) rows) slots groups number stamp
+  pub stored_bare : (n : ℕ) → list_any (is_on n) (installed_until order slots) ≡ false
+      → (table_of (filter (λ r. not (is_row_of n r)) rows) slots number stamp order ≡ without_handle n (table_of rows slots number stamp order)) × IsStore (filter (λ r. not (is_row_of n r)) rows) slots groups number stamp order
   stored_bare n bare =
       let left : lives (filter (λ r. not (is_row_of n r)) rows) ≡ filter (λ h. not (has_number n h)) (lives rows) = filter_map_filter (λ r. r.live) (λ h. not (has_number n h)) rows in
-      let same : table_of (filter (λ r. not (is_row_of n r)) rows) slots number stamp ≡ without_handle n (table_of rows slots number stamp) = rw (left, none_goes n (installed_until stamp slots) bare) refl in (
+      let same : table_of (filter (λ r. not (is_row_of n r)) rows) slots number stamp order ≡ without_handle n (table_of rows slots number stamp order) = rw (left, none_goes n (installed_until order slots) bare) refl in (
         same,
         record {
-          table = subst IsTable (sym same) (table_without_handle (table_of rows slots number stamp) n s.table);
+          table = subst IsTable (sym same) (table_without_handle (table_of rows slots number stamp order) n s.table);
           filed = record {
             by_handle = λ m. rw (keys_without rows n m (bare_keys n bare)) (s.filed.by_handle m);
             in_row = λ key i e. ap (find (is_key_of slots i.guid)) (keys_without rows n i.handle (bare_keys n bare)) ∙ s.filed.in_row key i e;
           };
           stamps = s.stamps;
-          stamped = s.stamped;
+          ordered = s.ordered;
         },
       )
 
   -- ---- taken back
 
   -- the last number is given again, if no handle has it
-  pub stored_unmade : (last : ℕ) → AllByRecursion (λ n. n ≤ last) (map (λ h. h.number) (lives rows)) → IsStore rows slots groups last stamp
+  pub stored_unmade : (last : ℕ) → AllByRecursion (λ n. n ≤ last) (map (λ h. h.number) (lives rows)) → IsStore rows slots groups last stamp order
   stored_unmade last below = record {
     table = record {
       proper = record {
@@ -547,61 +522,52 @@ module _ (rows : List Row) (slots : List (Option Record)) (groups : List Group) 
     };
     filed = s.filed;
     stamps = s.stamps;
-    stamped = s.stamped;
+    ordered = s.ordered;
   }
 
-  -- the last stamp is given again, if no interface has it
-  pub stored_back : (last : ℕ) → stamp ≡ last + 1 → AllByRecursion (λ i. i.stamp < stamp) (installed_until stamp slots)
-      → (installed_until last slots ≡ installed_until stamp slots) × IsStore rows slots groups number last
-  stored_back last e below =
-      let under : AreBelow last slots = λ j r w.
-      let f = slot_found j r.interface (ap (option_map (λ (x : Record). x.interface)) w) in
-      let l : r.interface.stamp < stamp = (found_one (λ i. i.stamp < stamp) (is_at r.interface.handle r.interface.guid) (installed_until stamp slots) r.interface below f).1 in
-      omega (arith, l, e, (s.stamped j r w).1) in
-      let same : installed_until last slots ≡ installed_until stamp slots = sym (ap (λ k. installed_until k slots) e ∙ until_later last slots under) in (
-        same,
-        record {
-          table = record {
-            proper = record { ascending = s.table.proper.ascending; given = s.table.proper.given; limit = s.table.proper.limit; on_live = rw same s.table.proper.on_live };
-            apart = rw same s.table.apart;
-            below = rw same (all_map (λ i. i.stamp < stamp) (λ i. i.stamp ≤ last) (λ i l. omega (arith, l, e)) (installed_until stamp slots) below);
-          };
-          filed = rw same s.filed;
-          stamps = rw same s.stamps;
-          stamped = s.stamped;
-        },
-      )
+  -- a stamp is the last again, if no interface has a later one
+  pub stored_back : (last : ℕ) → AllByRecursion (λ i. i.stamp ≤ last) (installed_until order slots) → IsStore rows slots groups number last order
+  stored_back last below = record {
+    table = record {
+      proper = record { ascending = s.table.proper.ascending; given = s.table.proper.given; limit = s.table.proper.limit; on_live = s.table.proper.on_live };
+      apart = s.table.apart;
+      below = below;
+    };
+    filed = s.filed;
+    stamps = s.stamps;
+    ordered = s.ordered;
+  }
 
   -- ---- by the tables before
 
-  pub unmade : (t : HandleTable) → table_of rows slots number stamp ≡ without_handle t.last_number t → AllByRecursion (λ n. n < t.last_number) (filter (λ n. not (n == t.last_number)) (numbers t))
-      → IsStore rows slots groups (number - 1) stamp
+  pub unmade : (t : HandleTable) → table_of rows slots number stamp order ≡ without_handle t.last_number t → AllByRecursion (λ n. n < t.last_number) (filter (λ n. not (n == t.last_number)) (numbers t))
+      → IsStore rows slots groups (number - 1) stamp order
   unmade t e below =
       let last : number ≡ t.last_number = ap (λ (x : HandleTable). x.last_number) e in
       let left : map (λ h. h.number) (lives rows) ≡ filter (λ n. not (n == t.last_number)) (numbers t) =
       ap (λ (x : HandleTable). numbers x) e ∙ filter_map_filter (λ (h : LiveHandle). h.number) (λ n. not (n == t.last_number)) t.handles in
       stored_unmade (number - 1) (rw left (all_map (λ n. n < t.last_number) (λ n. n ≤ number - 1) (λ n l. omega (arith, l, last)) (filter (λ n. not (n == t.last_number)) (numbers t)) below))
 
-  pub taken_back : (t : HandleTable) (is : List Interface) → table_of rows slots number stamp ≡ record t { interfaces = is } → AllByRecursion (λ i. i.stamp < t.last_stamp) is → 0 < t.last_stamp
-      → (table_of rows slots number (stamp - 1) ≡ record t { interfaces = is; last_stamp = t.last_stamp - 1 }) × IsStore rows slots groups number (stamp - 1)
+  pub taken_back : (t : HandleTable) (is : List Interface) → table_of rows slots number stamp order ≡ record t { interfaces = is } → AllByRecursion (λ i. i.stamp < t.last_stamp) is → 0 < t.last_stamp
+      → (table_of rows slots number (stamp - 1) order ≡ record t { interfaces = is; last_stamp = t.last_stamp - 1 }) × IsStore rows slots groups number (stamp - 1) order
   taken_back t is e below some =
       let last : stamp ≡ t.last_stamp = ap (λ (x : HandleTable). x.last_stamp) e in
-      let these : installed_until stamp slots ≡ is = ap (λ (x : HandleTable). x.interfaces) e in
-      let b = stored_back (stamp - 1) (omega (arith, last, some)) (rw (these, last) below) in
-      let back : table_of rows slots number (stamp - 1) ≡ record (table_of rows slots number stamp) { last_stamp = stamp - 1 } = rw b.0 refl in
-      (back ∙ ap (λ (x : HandleTable). record x { last_stamp = x.last_stamp - 1 }) e, b.1)
+      let these : installed_until order slots ≡ is = ap (λ (x : HandleTable). x.interfaces) e in (
+        ap (λ (x : HandleTable). record x { last_stamp = x.last_stamp - 1 }) e,
+        stored_back (stamp - 1) (rw these (all_map (λ i. i.stamp < t.last_stamp) (λ i. i.stamp ≤ stamp - 1) (λ i l. omega (arith, l, last)) is below)),
+      )
 
   -- groups with the same stamps
-  pub stored_same : (gs : List Group) → HaveSameStamps groups gs → IsStore rows slots gs number stamp
+  pub stored_same : (gs : List Group) → HaveSameStamps groups gs → IsStore rows slots gs number stamp order
   stored_same gs g = record {
     table = s.table;
     filed = s.filed;
     stamps = λ guid n. g guid n ∙ s.stamps guid n;
-    stamped = s.stamped;
+    ordered = s.ordered;
   }
 
-  pub stored_kept : (n : ℕ) (guid : List ℕ) → key_at slots rows guid n ≡ None → table_of rows slots number stamp ≡ record (table_of rows slots number stamp) { interfaces = filter (λ i. not (is_at n guid i)) (installed_until stamp slots) }
-  stored_kept n guid none = ap (λ is. record (table_of rows slots number stamp) { interfaces = is }) (stored_none n guid none)
+  pub stored_kept : (n : ℕ) (guid : List ℕ) → key_at slots rows guid n ≡ None → table_of rows slots number stamp order ≡ record (table_of rows slots number stamp order) { interfaces = filter (λ i. not (is_at n guid i)) (installed_until order slots) }
+  stored_kept n guid none = ap (λ is. record (table_of rows slots number stamp order) { interfaces = is }) (stored_none n guid none)
 
-  pub uncarried : (n : ℕ) (guid : List ℕ) → key_at slots rows guid n ≡ None → carries (table_of rows slots number stamp) guid n ≡ true → ⊥
+  pub uncarried : (n : ℕ) (guid : List ℕ) → key_at slots rows guid n ≡ None → carries (table_of rows slots number stamp order) guid n ≡ true → ⊥
   uncarried n guid none h = let w : false ≡ true = sym (ap is_some (stored_at n guid ∙ ap (option_and_then (at_key slots)) none)) ∙ h in cc

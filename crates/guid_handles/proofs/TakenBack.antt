@@ -1,24 +1,21 @@
 -- Handles above a number go, the last one first, and that number and a stamp are the last again.
-use Rattle.std.proofs.Common.{◌≡◌, ℕ, zero, suc, ◌+◌, ◌-◌, ◌<◌, ◌≤◌, ◌==◌, nat_eq, nat_le, not, Bool, true, List, [], ◌∷◌, map, length, Option, Some, None, inl, inr, refl, sym, ap, ◌∙◌, arith}
+use Rattle.std.proofs.Common.{◌≡◌, ℕ, zero, suc, ◌-◌, ◌<◌, ◌≤◌, ◌==◌, nat_eq, nat_le, not, Bool, true, List, [], ◌∷◌, map, length, Option, Some, None, inl, inr, refl, ap, arith}
 use Rattle.std.specs.List.{filter, list_any, slice_get, AllByRecursion}
-use Rattle.std.specs.Option.{option_map}
 use Rattle.std.proofs.lemmas.Bool.{cases_Bool, eq-eqb, ne_eqb, leb-true, le-leb}
 use Rattle.std.proofs.lemmas.Option.{same_Some}
 use Rattle.guid_handles.specs.declared.records.Interface.{Interface}
 use Rattle.guid_handles.specs.declared.records.LiveHandle.{LiveHandle}
 use Rattle.guid_handles.specs.declared.records.Record.{Record}
-use Rattle.guid_handles.specs.HandleTables.{HandleTable, numbers, is_on, is_at, has_number}
+use Rattle.guid_handles.specs.HandleTables.{HandleTable, numbers, is_on, has_number}
 use Rattle.guid_handles.specs.HandleChanges.{IsHandleTable, without_handle}
 use Rattle.guid_handles.specs.Sorting.{Ascending}
 use Rattle.guid_handles.specs.Indexes.{Row, Group, lives}
 use Rattle.guid_handles.specs.Slots.{installed_until}
 use Rattle.guid_handles.specs.Stores.{IsStore, table_of}
 use Rattle.guid_handles.specs.TableSteps.{AreOlder, taken_back_to, without_above}
-use Rattle.guid_handles.proofs.SortedLists.{all_both, all_map, all_under, any_member, filter_shorter}
+use Rattle.guid_handles.proofs.SortedLists.{all_map, all_under, any_member, filter_shorter}
 use Rattle.guid_handles.proofs.Filters.{filter_inside}
-use Rattle.guid_handles.proofs.Found.{found_one}
-use Rattle.guid_handles.proofs.Slotted.{AreBelow, until_later}
-use Rattle.guid_handles.proofs.Stored.{slot_found}
+use Rattle.guid_handles.proofs.Stored.{stored_back, stored_unmade}
 
 -- ---- the last of ascending numbers
 
@@ -88,12 +85,6 @@ none_above n t h a =
 
 -- ---- how the table is kept
 
-until_back : (k last : ℕ) (slots : List (Option Record)) → AreBelow last slots → installed_until (k + last) slots ≡ installed_until last slots
-until_back zero last slots b = let none : 0 + last ≡ last = omega arith in ap (λ m. installed_until m slots) none
-until_back (suc k) last slots b =
-    let next : suc k + last ≡ (k + last) + 1 = omega arith in
-    ap (λ m. installed_until m slots) next ∙ until_later (k + last) slots (λ j r e. omega (arith, b j r e)) ∙ until_back k last slots b
-
 those_lower : (n : ℕ) (hs : List LiveHandle) → AllByRecursion (λ k. k ≤ n) (map (λ (h : LiveHandle). h.number) (filter (λ h. nat_le h.number n) hs))
 those_lower n [] = tt
 those_lower n (h ∷ hs) = elim (cases_Bool (nat_le h.number n)) [
@@ -101,41 +92,14 @@ those_lower n (h ∷ hs) = elim (cases_Bool (nat_le h.number n)) [
   | inr f ↦ rw f (those_lower n hs)
 ]
 
-module _ (rows : List Row) (slots : List (Option Record)) (groups : List Group) (number stamp : ℕ) (s : IsStore rows slots groups number stamp) where
+module _ (rows : List Row) (slots : List (Option Record)) (groups : List Group) (number stamp order : ℕ) (s : IsStore rows slots groups number stamp order) where
   -- a number and a stamp are the last again, if no handle and no interface has a later one
-  stored_back_to : (n last : ℕ) → AllByRecursion (λ k. k ≤ n) (map (λ h. h.number) (lives rows)) → last ≤ stamp → AllByRecursion (λ i. i.stamp ≤ last) (installed_until stamp slots)
-      → (installed_until last slots ≡ installed_until stamp slots) × IsStore rows slots groups n last
-  stored_back_to n last lower l older =
-      let under : AreBelow last slots = λ j r w.
-      let f = slot_found rows slots groups number stamp s j r.interface (ap (option_map (λ (x : Record). x.interface)) w) in
-      let k : r.interface.stamp ≤ last = (found_one (λ i. i.stamp ≤ last) (is_at r.interface.handle r.interface.guid) (installed_until stamp slots) r.interface older f).1 in
-      omega (arith, k, (s.stamped j r w).1) in
-      let sum : stamp ≡ (stamp - last) + last = omega (arith, l) in
-      let same : installed_until last slots ≡ installed_until stamp slots = sym (ap (λ k. installed_until k slots) sum ∙ until_back (stamp - last) last slots under) in (
-        same,
-        record {
-          table = record {
-            proper = record {
-              ascending = s.table.proper.ascending;
-              given = all_both (λ m. (0 < m) × (m ≤ number)) (λ m. m ≤ n) (λ m. (0 < m) × (m ≤ n)) (λ m h k. (h.0, k)) (map (λ h. h.number) (lives rows)) s.table.proper.given lower;
-              limit = s.table.proper.limit;
-              on_live = rw same s.table.proper.on_live;
-            };
-            apart = rw same s.table.apart;
-            below = rw same older;
-          };
-          filed = rw same s.filed;
-          stamps = rw same s.stamps;
-          stamped = s.stamped;
-        },
-      )
-
-  pub taken_back_to_mark : (t : HandleTable) (n last : ℕ) → table_of rows slots number stamp ≡ without_above n t → last ≤ t.last_stamp → AreOlder n last t
-      → (table_of rows slots n last ≡ taken_back_to n last t) × IsStore rows slots groups n last
-  taken_back_to_mark t n last e l older =
-      let stamps : stamp ≡ t.last_stamp = ap (λ (x : HandleTable). x.last_stamp) e in
-      let these : installed_until stamp slots ≡ (without_above n t).interfaces = ap (λ (x : HandleTable). x.interfaces) e in
+  pub taken_back_to_mark : (t : HandleTable) (n last : ℕ) → table_of rows slots number stamp order ≡ without_above n t → AreOlder n last t
+      → (table_of rows slots n last order ≡ taken_back_to n last t) × IsStore rows slots groups n last order
+  taken_back_to_mark t n last e older =
+      let these : installed_until order slots ≡ (without_above n t).interfaces = ap (λ (x : HandleTable). x.interfaces) e in
       let those : lives rows ≡ filter (λ h. nat_le h.number n) t.handles = ap (λ (x : HandleTable). x.handles) e in
-      let b = stored_back_to n last (rw those (those_lower n t.handles)) (omega (arith, l, stamps)) (rw these older) in
-      let back : table_of rows slots n last ≡ record (table_of rows slots number stamp) { last_number = n; last_stamp = last } = rw b.0 refl in
-      (back ∙ ap (λ (x : HandleTable). record x { last_number = n; last_stamp = last }) e, b.1)
+      let lower : AllByRecursion (λ k. k ≤ n) (map (λ h. h.number) (lives rows)) = rw those (those_lower n t.handles) in (
+        ap (λ (x : HandleTable). record x { last_number = n; last_stamp = last }) e,
+        stored_back rows slots groups n stamp order (stored_unmade rows slots groups number stamp order s n lower) last (rw these older),
+      )

@@ -28,16 +28,16 @@ abbrev pub with_stamp : ℕ → ℕ → Record → Record
 with_stamp value stamp r =
     record r { interface = record r.interface { value = value; stamp = stamp } }
 
--- the interface in a slot, if it was installed with a stamp
+-- the interface in a slot, if its installation has a number
 abbrev pub picked : ℕ → Option Record → List Interface
-picked stamp None = []
-picked stamp (Some r) = cond (r.installed == stamp) (r.interface ∷ []) []
+picked order None = []
+picked order (Some r) = cond (r.installed == order) (r.interface ∷ []) []
 
 abbrev pub installed_with : ℕ → List (Option Record) → List Interface
-installed_with stamp [] = []
-installed_with stamp (slot ∷ slots) = picked stamp slot ++ installed_with stamp slots
+installed_with order [] = []
+installed_with order (slot ∷ slots) = picked order slot ++ installed_with order slots
 
--- the interfaces that were installed with the stamps from 1 to the last, in this order
+-- the interfaces whose installations have the numbers from 1 to the last, in this order
 abbrev pub installed_until : ℕ → List (Option Record) → List Interface
 installed_until zero slots = []
-installed_until (suc stamp) slots = installed_until stamp slots ++ installed_with (suc stamp) slots
+installed_until (suc order) slots = installed_until order slots ++ installed_with (suc order) slots

@@ -1,5 +1,5 @@
 -- What single steps do to the handle table, and what they return.
-use Rattle.std.specs.Prelude.{◌≡◌, ℕ, ◌+◌, ◌-◌, ◌<◌, ◌≤◌, ◌==◌, nat_le, not, true, false, map, List, [], ◌∷◌, Option, Result}
+use Rattle.std.specs.Prelude.{◌≡◌, ℕ, ◌+◌, ◌-◌, ◌<◌, ◌≤◌, ◌==◌, nat_le, not, map, List, [], ◌∷◌, Option, Result}
 use Rattle.std.specs.List.{filter, AllByRecursion}
 use Rattle.page_ranges.specs.declared.statuses.Status.{Status}
 use Rattle.guid_handles.specs.declared.records.Interface.{Interface}
@@ -80,22 +80,9 @@ AreOthersOlder n guid t = AllByRecursion (λ i. i.stamp < t.last_stamp) (interfa
 
 -- ---- an interface that changes
 
--- the interface of a GUID on a handle has a value and a stamp, in its place
-abbrev pub put_at : ℕ → List ℕ → ℕ → ℕ → HandleTable → HandleTable
-put_at n guid value stamp t =
-    record t { interfaces = map (restamped n guid value stamp) t.interfaces }
-
--- the interface of a GUID on a handle may have a stamp: it has none above that, and no other has it
-abbrev pub MayHave : ℕ → List ℕ → ℕ → Interface → Type 0
-MayHave n guid stamp i =
-    (is_at n guid i ≡ true → i.stamp ≤ stamp)
-    × (is_at n guid i ≡ false → (i.stamp == stamp) ≡ false)
-
--- an interface is the one of a GUID on a handle, or has another stamp
-abbrev pub IsAlone : ℕ → List ℕ → Interface → Interface → Type 0
-IsAlone n guid x i =
-    (is_at n guid i ≡ true → i ≡ x) × (is_at n guid i ≡ false → (i.stamp == x.stamp) ≡ false)
-
--- a stamp is given
-abbrev pub with_stamp_given : HandleTable → HandleTable
-with_stamp_given t = record t { last_stamp = t.last_stamp + 1 }
+-- the interface of a GUID on a handle has a value and a stamp, in its place, and a stamp is the last
+abbrev pub rewritten : ℕ → List ℕ → ℕ → ℕ → ℕ → HandleTable → HandleTable
+rewritten n guid value stamp last t = record t {
+  interfaces = map (restamped n guid value stamp) t.interfaces;
+  last_stamp = last;
+}

@@ -1,14 +1,14 @@
 //! The handle table.
 ghost use Rattle.std.specs.Prelude.{◌≡◌, ◌≢◌, ◌+◌, ◌-◌, ◌<◌, ◌≤◌, ◌^◌, ◌==◌, ◌&&◌, ℕ, cond, not, is_some, IsSome, IfSome, IfNone, OnOk, true, false, [], ◌∷◌, ◌++◌, map, length, option_map, slice_get, None, Some, IfOk, OnErr};
 ghost use Rattle.std.specs.List.{find, list_any, AllByRecursion};
-ghost use Rattle.guid_handles.specs.HandleTables.{numbers, same_guid, is_live, is_on, maker_of, interface_at, value_at, carries, holders_of, interfaces_on, guids_on, written_over, next_after};
+ghost use Rattle.guid_handles.specs.HandleTables.{HandleTable, numbers, same_guid, is_live, is_on, maker_of, interface_at, value_at, carries, holders_of, interfaces_on, guids_on, written_over, next_after};
 ghost use Rattle.guid_handles.specs.HandleChanges.{IsHandleTable, max_handles, max_installed, no_handles, has_guid_twice, is_dead, is_taken, past_limit, refusal, with_interfaces, install_refusal, install_many_refusal, Installs, without_handle, without_interface, with_value};
 ghost use Rattle.guid_handles.specs.Indexes.{AddsStamp, AreAbsent, ChangesKeys, HaveSameStamps, is_row_of, stamp_at};
 ghost use Rattle.guid_handles.specs.Slots.{record_at, with_stamp};
 ghost use Rattle.guid_handles.specs.Sorting.{Ascending};
 ghost use Rattle.guid_handles.specs.MadeOn.{made_on};
-ghost use Rattle.guid_handles.specs.TableSteps.{AreOthersLower, AreOthersOlder, InstallsMany, InstallsOne, MakesHandle, MakesHandleWith, AreOlder, taken_back, taken_back_to, taken_out, IsAlone, MayHave, put_at, with_stamp_given, without_above, without_last_handle};
-ghost use Rattle.guid_handles.specs.Stores.{key_at};
+ghost use Rattle.guid_handles.specs.TableSteps.{AreOthersLower, AreOthersOlder, InstallsMany, InstallsOne, MakesHandle, MakesHandleWith, AreOlder, rewritten, taken_back, taken_back_to, taken_out, without_above, without_last_handle};
+ghost use Rattle.guid_handles.specs.Stores.{IsTable, Replaced, key_at};
 
 use crate::groups::Groups;
 use crate::guids::is_same_guid;
@@ -38,6 +38,8 @@ pub struct Handles<A: Allocator = Global> {
     groups: Groups<A>,
     last_number: u64,
     last_stamp: u64,
+    // The number of the last installation. No step takes it back.
+    last_order: u64,
 }
 
 impl<A: Allocator> Model for Handles<A> {
@@ -46,10 +48,10 @@ impl<A: Allocator> Model for Handles<A> {
 
     ghost Value = { HandleTable };
 
-    ghost view = { λ h. table_of h.rows h.records.slots h.last_number h.last_stamp };
+    ghost view = { λ h. table_of h.rows h.records.slots h.last_number h.last_stamp h.last_order };
 
     ghost invariant = { λ h.
-        IsStore h.rows h.records.slots h.groups h.last_number h.last_stamp };
+        IsStore h.rows h.records.slots h.groups h.last_number h.last_stamp h.last_order };
 }
 
 /// Puts the key of an interface on a live handle into its row, and its stamp into the group of its
@@ -137,6 +139,7 @@ impl<A: Allocator + Copy> Handles<A> {
             groups: Groups::new(alloc),
             last_number: 0,
             last_stamp: 0,
+            last_order: 0,
         }
     }
 
@@ -154,6 +157,7 @@ impl<A: Allocator + Copy> Handles<A> {
             groups,
             last_number: self.last_number,
             last_stamp: self.last_stamp,
+            last_order: self.last_order,
         })
     }
 
@@ -373,9 +377,13 @@ impl<A: Allocator + Copy> Handles<A> {
         ensures below { AllByRecursion (λ i. i.stamp ≤ self.old.last_stamp) self.old.interfaces }
         ensures err { OnErr result (self.new ≡ self.old) }
     {
+        if self.last_order == u64::MAX {
+            return Err(AllocError);
+        }
         make_slot(&mut self.records)?;
         let key = self.records.vacant_key();
         let stamp = self.last_stamp + 1;
+        let order = self.last_order + 1;
         let interface = Interface {
             handle,
             guid,
@@ -385,9 +393,10 @@ impl<A: Allocator + Copy> Handles<A> {
         file_key(&mut self.rows, &mut self.groups, &interface, key)?;
         self.records.insert_reserved(Record {
             interface,
-            installed: stamp,
+            installed: order,
         });
         self.last_stamp = stamp;
+        self.last_order = order;
         Ok(())
     }
 
@@ -625,51 +634,47 @@ impl<A: Allocator + Copy> Handles<A> {
         self.last_stamp = last_stamp;
     }
 
-    /// Gives the next stamp, which is not an interface's yet, and returns it.
-    pub fn give_stamp(&mut self) -> u64
-        requires { self.old.last_stamp < 2 ^ 62 }
-        ensures table { self.new ≡ with_stamp_given self.old }
-        ensures stamp { result ≡ self.old.last_stamp + 1 }
-        ensures earlier { AllByRecursion (λ i. i.stamp < result) self.old.interfaces }
-    {
-        self.last_stamp += 1;
-        self.last_stamp
-    }
-
-    /// Gives the interface of a GUID on a handle a value and a stamp, which is not below its own and no
-    /// other's. It keeps its place in the order of installation. This takes no memory.
-    pub fn put(&mut self, handle: u64, guid: Uuid, value: u64, stamp: u64)
+    /// Gives the interface of a GUID on a handle a value and a stamp, and makes a stamp the last that was
+    /// given.
+    fn rewrite(&mut self, handle: u64, guid: Uuid, value: u64, stamp: u64, last: u64)
         requires there { carries self.old guid handle ≡ true }
-        requires may { AllByRecursion (MayHave handle guid stamp) self.old.interfaces }
-        requires given { stamp ≤ self.old.last_stamp }
-        ensures { self.new ≡ put_at handle guid value stamp self.old }
+        requires table { IsTable (rewritten handle guid value stamp last self.old) }
+        ensures { self.new ≡ rewritten handle guid value stamp last self.old }
     {
         if let Some(key) = key_of(&self.rows, &self.records, handle, guid) {
             restamp(&mut self.records, key, value, stamp);
             self.groups.restamp(guid, handle, stamp);
+            self.last_stamp = last;
         }
     }
 
     /// Gives the interface of a GUID on a handle a value and a new stamp. It keeps its place in the
-    /// order of installation.
+    /// order of installation. This takes no memory.
     pub fn replace(&mut self, handle: u64, guid: Uuid, value: u64)
         requires there { carries self.old guid handle ≡ true }
         requires stamps { self.old.last_stamp < 2 ^ 62 }
         ensures { self.new ≡ with_value handle guid value self.old }
     {
-        let stamp = self.give_stamp();
-        self.put(handle, guid, value, stamp);
+        let stamp = self.last_stamp + 1;
+        self.rewrite(handle, guid, value, stamp, stamp);
     }
 
-    /// The interface of a GUID on a handle, if there is one, which is the only one of the kind and has a
-    /// stamp of its own.
-    pub fn installed(&self, handle: u64, guid: Uuid) -> Option<Interface>
-        ensures value { result ≡ interface_at self.now handle guid }
-        ensures alone { IfSome result
-            (λ x. AllByRecursion (IsAlone handle guid x) self.now.interfaces) }
-        ensures given { IfSome result (λ x. x.stamp ≤ self.now.last_stamp) }
+    /// Undoes `replace`: puts back the interface as it was, and the last stamp. This takes no memory.
+    pub fn restore(&mut self, handle: u64, guid: Uuid, own: Interface, last_stamp: u64)
+        requires { (before : HandleTable)
+            × Replaced handle guid own last_stamp before self.old }
+        ensures { (before : HandleTable)
+            → Replaced handle guid own last_stamp before self.old → self.new ≡ before }
     {
-        // No interface has a stamp above the last.
+        self.rewrite(handle, guid, own.value, own.stamp, last_stamp);
+    }
+
+    /// The interface of a GUID on a handle, if there is one.
+    pub fn installed(&self, handle: u64, guid: Uuid) -> Option<Interface>
+        ensures interface { result ≡ interface_at self.now handle guid }
+        ensures table { IsTable self.now }
+    {
+        // Each interface is one of its kind, and none has a stamp above the last.
         let _last = self.last_stamp;
         self.find(handle, guid)
     }

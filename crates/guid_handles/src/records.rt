@@ -32,6 +32,6 @@ pub struct Interface {
 #[derive(Clone, Copy)]
 pub(crate) struct Record {
     pub(crate) interface: Interface,
-    /// The stamp of its installation. Interfaces are in the order of these.
+    /// The number of its installation. Interfaces are in the order of these.
     pub(crate) installed: u64,
 }

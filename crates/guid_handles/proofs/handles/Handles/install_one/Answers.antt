@@ -7,16 +7,16 @@ use Rattle.guid_handles.proofs.Refused.{on_err}
 use Rattle.guid_handles.proofs.handles.Handles.install_one.Goals as goal
 
 pub file_key-requires-clause-live : goal.file_key-requires-clause-live
-file_key-requires-clause-live g c = live_row _ _ _ _ _ c.self.invariant c.args.handle (rw (← c.self.view_is) at c.requires.live)
+file_key-requires-clause-live g c = live_row _ _ _ _ _ _ c.self.invariant c.args.handle (rw (← c.self.view_is) at c.requires.live)
 
 pub file_key-requires-clause-absent : goal.file_key-requires-clause-absent
-file_key-requires-clause-absent g c = unstamped _ _ _ _ _ c.self.invariant c.args.handle c.args.guid (rw (← c.self.view_is) at c.requires.absent)
+file_key-requires-clause-absent g c = unstamped _ _ _ _ _ _ c.self.invariant c.args.handle c.args.guid (rw (← c.self.view_is) at c.requires.absent)
 
 pub invariant_of-self-2 : goal.invariant_of-self-2
 invariant_of-self-2 g c =
     let same = ap (λ (s : Slab Record). s.slots) c.make_slot.ensures.rest_kept in
     let key = c.insert_reserved.ensures.key ∙ sym c.vacant_key-key.ensures.value in
-    (stored_more _ _ _ _ _ c.self.invariant _ _ _ c.args.handle c.args.guid c.args.value _ (rw (← c.self.view_is) at c.requires.live) (rw (← c.self.view_is) at c.requires.absent)
+    (stored_more _ _ _ _ _ _ c.self.invariant _ _ _ c.args.handle c.args.guid c.args.value _ (rw (← c.self.view_is) at c.requires.live) (rw (← c.self.view_is) at c.requires.absent)
     (rw same at c.vacant_key-key.ensures.vacant) (rw key at c.insert_reserved.ensures.updates.changed) (rw (key, same) at c.insert_reserved.ensures.updates.others)
     c.in_ok-file_key.ensures.rows c.in_ok-file_key.ensures.groups).1
 
@@ -25,7 +25,7 @@ returns-clause-ok g c =
     let same = ap (λ (s : Slab Record). s.slots) c.make_slot.ensures.rest_kept in
     let key = c.insert_reserved.ensures.key ∙ sym c.vacant_key-key.ensures.value in
     rw (← c.self.view_is)
-    (stored_more _ _ _ _ _ c.self.invariant _ _ _ c.args.handle c.args.guid c.args.value _ (rw (← c.self.view_is) at c.requires.live) (rw (← c.self.view_is) at c.requires.absent)
+    (stored_more _ _ _ _ _ _ c.self.invariant _ _ _ c.args.handle c.args.guid c.args.value _ (rw (← c.self.view_is) at c.requires.live) (rw (← c.self.view_is) at c.requires.absent)
     (rw same at c.vacant_key-key.ensures.vacant) (rw key at c.insert_reserved.ensures.updates.changed) (rw (key, same) at c.insert_reserved.ensures.updates.others)
     c.in_ok-file_key.ensures.rows c.in_ok-file_key.ensures.groups).0
 
@@ -47,7 +47,7 @@ returns-in_err-file_key-clause-err g c = let same = ap (λ (s : Slab Record). s.
 pub invariant_of-self-in_err-file_key : goal.invariant_of-self-in_err-file_key
 invariant_of-self-in_err-file_key g c =
     let same = ap (λ (s : Slab Record). s.slots) c.make_slot.ensures.rest_kept in
-    rw (c.in_err-file_key.ensures.rows_stay, same) (stored_same _ _ _ _ _ c.self.invariant c.file_key.new.groups c.in_err-file_key.ensures.groups_stay)
+    rw (c.in_err-file_key.ensures.rows_stay, same) (stored_same _ _ _ _ _ _ c.self.invariant c.file_key.new.groups c.in_err-file_key.ensures.groups_stay)
 
 pub overflow_add-stamp : goal.overflow_add-stamp
 overflow_add-stamp g c = omega (arith, rw (← c.self.view_is) at c.requires.stamps)
