@@ -480,7 +480,8 @@ RAFKUDIN_API rafkudin_uint64 RafkudinCheck(const uint8_t *text, size_t length,
  * pages are all free (conventional) and without SP; the service takes the highest of those after
  * which the memory map has the fewest entries. On a machine with the granule 16, pages of the types
  * RESERVED, RUNTIME_SERVICES_CODE, RUNTIME_SERVICES_DATA and ACPI_MEMORY_NVS begin at a multiple of
- * 16 pages, and their number is rounded up to one.
+ * 16 pages, and their number is rounded up to one. The address is 0 where the pages begin at page
+ * 0: where callers take 0 for no memory, the records give page 0 another type.
  *
  * INVALID_PARAMETER: another type of allocation, a memory type that no request may name, or 0
  * pages. NOT_FOUND: the pages are not all there and free at the address, or the address is no
