@@ -140,6 +140,7 @@ export class Room {
     this.lines = new Region(module, lineBytes);
     this.line = module.take(MAX_LINE_LENGTH);
     this.text = { at: module.take(WASM_PAGE), room: WASM_PAGE };
+    this.entries = module.take(0);
     this.entryRoom = 0;
   }
 
