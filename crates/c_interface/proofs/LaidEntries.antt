@@ -21,8 +21,8 @@ entry_laid ds d old buffer n e a is =
     let count : length (map entry_in_c ds) ≡ n = length-map ds entry_in_c ∙ sym e in
     let next : n + 1 ≡ suc n = omega arith in
     rw (is, next, map-append entry_in_c ds (d ∷ []))
-      (subst (λ k. slice_set (map entry_in_c ds ++ drop k old) k (entry_in_c d) ≡ (map entry_in_c ds ++ entry_in_c d ∷ []) ++ drop (suc k) old) count
-        (laid_behind (map entry_in_c ds) old (entry_in_c d) (subst (λ k. k < length old) (sym count) a)))
+    (subst (λ k. slice_set (map entry_in_c ds ++ drop k old) k (entry_in_c d) ≡ (map entry_in_c ds ++ entry_in_c d ∷ []) ++ drop (suc k) old) count
+    (laid_behind (map entry_in_c ds) old (entry_in_c d) (subst (λ k. k < length old) (sym count) a)))
 
 -- all entries are laid
 pub all_laid : (ds : List Descriptor) (old : List MapEntry) (n : ℕ) → n ≡ length ds → n ≤ length old →
@@ -41,7 +41,7 @@ full_laid ds rest old n e a =
     let count : length ms ≡ length old = length-map ds entry_in_c ∙ sym e ∙ a in
     let long : length old ≤ length xs = omega (arith, ap length whole ∙ length-append ms (map entry_in_c rest), count) in
     let front : take (length old) xs ≡ ms =
-        ap (λ ws. take (length old) ws) whole ∙ subst (λ k. take k (ms ++ map entry_in_c rest) ≡ ms) count (take-append_seam ms (map entry_in_c rest)) in
+    ap (λ ws. take (length old) ws) whole ∙ subst (λ k. take k (ms ++ map entry_in_c rest) ≡ ms) count (take-append_seam ms (map entry_in_c rest)) in
     rw (front, drop_of_length-le old {i = n} (omega (arith, a)), drop_of_length-le old {i = length xs} long) refl
 
 -- the buffer keeps its length
