@@ -365,7 +365,8 @@ static void refuse_reinstallations(uint8_t child, uint64_t handles)
 
 /* ---- Several interfaces at once ---- */
 
-/* Handles with three, four and five interfaces, one with another GUID, and events for two GUIDs. */
+/* Handles with three, four and five interfaces, one with another GUID, one with two more, which fills
+ * the lists of these GUIDs' handles, and events for two GUIDs. */
 static struct rafkudin *installed(void)
 {
     struct rafkudin *core = plain_core();
@@ -373,6 +374,7 @@ static struct rafkudin *installed(void)
     for (uint64_t count = 3; count < 6; count++)
         succeed(core, (struct call){INSTALL_MANY, 0, 1, count, 0});
     succeed(core, (struct call){INSTALL, 0, 9, 0, 0});
+    succeed(core, (struct call){INSTALL_MANY, 0, 1, 2, 0});
     succeed(core, (struct call){REGISTER, 0, 4, 1, 0});
     succeed(core, (struct call){REGISTER, 0, 21, 2, 0});
     return core;
