@@ -72,7 +72,7 @@
  *
  * docs/C.md says what these must do, how to link, and how a firmware builds the library. On x86-64
  * it runs on every processor and may be interrupted anywhere, as it uses no byte below the stack
- * pointer. ReinstallProtocolInterface and ConnectController take up to 7 KB of stack, services that
+ * pointer. ReinstallProtocolInterface and ConnectController take up to 8 KB of stack, services that
  * change pages 6 KB, RafkudinFree 10 KB, RafkudinMake 20 KB, RafkudinPlace 22 KB; docs/C.md says
  * what others take. */
 #ifndef RAFKUDIN_H

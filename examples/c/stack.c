@@ -234,7 +234,7 @@ static const struct measured all[] = {
     {"RafkudinFreePool", free_pool, 6000},
     {"RafkudinInstallMultipleProtocolInterfaces", install, 12000},
     {"RafkudinConnectController", connect, 7000},
-    {"RafkudinReinstallProtocolInterface", reinstall, 7000},
+    {"RafkudinReinstallProtocolInterface", reinstall, 8000},
     {"RafkudinOpenProtocol", open, 5000},
     {"RafkudinOpenProtocolInformation", information, 6000},
     {"RafkudinLocateHandleBuffer", locate, 6000},
