@@ -323,7 +323,6 @@ impl<A: Allocator + Copy> LeafRow<A> {
 
     /// Joins the two runs at the border before a leaf if they should be one, and merges the two leaves if they have few
     /// runs. Returns the index of the next leaf.
-    #[inline(always)]
     fn settle(&mut self, at: usize) -> usize
         requires bound { at ≤ length self.old.leaves + 1 }
         requires below { AreMaximalRuns (runs_up_to at self.old.leaves) }

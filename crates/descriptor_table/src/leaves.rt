@@ -105,7 +105,6 @@ impl<A: Allocator + Copy> Leaf<A> {
 
     /// Replaces some of the leaf's runs by others, and does not leave it empty. Its summary is joined with that
     /// of the changed runs, and recomputed after `most_joins` joins; none is kept for `ALLOWS_ALL`.
-    #[inline(always)]
     pub(crate) fn replace(&mut self, low: usize, high: usize, parts: &[Run], most_joins: u8)
         requires order { low ≤ high }
         requires bound { high ≤ length self.old }
