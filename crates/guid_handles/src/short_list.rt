@@ -132,6 +132,7 @@ impl<A: Allocator + Copy> Clone for ShortList<A> {
     ghost is_clone = { λ m n. n ≡ m };
 
     // Few numbers are copied one by one, which is faster than a slice of any length.
+    #[inline(always)]
     fn clone(&self) -> Result<ShortList<A>, AllocError> {
         match self.as_slice() {
             [a] => Ok(self.few([*a, 0, 0, 0], 1)),
