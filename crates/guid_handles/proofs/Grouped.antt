@@ -1,20 +1,20 @@
 -- Groups by GUID: which one is found, and which stamps are in them once one has changed.
 use Rattle.std.proofs.Math.ListN.{set}
 use Rattle.std.proofs.Math.Numerals.{add-one}
-use Rattle.std.proofs.Common.{get_or, take, ◌&&◌, ◌≡◌, ℕ, zero, suc, ◌<◌, ◌≤◌, ◌==◌, nat_lt, Bool, true, false, cond, List, [], ◌∷◌, map, length, Option, Some, None, is_some, inl, inr, refl, sym, ap, ◌∙◌, arith, subst, ◌+◌, ◌++◌}
+use Rattle.std.proofs.Common.{get_or, take, ◌&&◌, ◌≡◌, ◌≢◌, ℕ, zero, suc, ◌<◌, ◌≤◌, ◌==◌, nat_lt, Bool, true, false, cond, List, [], ◌∷◌, map, length, Option, Some, None, is_some, inl, inr, refl, sym, ap, ◌∙◌, arith, subst, ◌+◌, ◌++◌}
 use Rattle.std.specs.List.{find, list_any, slice_get, insert, remove}
 use Rattle.std.specs.Option.{option_map, option_and_then}
 use Rattle.std.specs.declared.cmp.Ordering.TheVariants.{Less}
 use Rattle.std.specs.Ordering.{nat_cmp, is_lt, is_eq}
 use Rattle.std.specs.Cmp.Lexicographic.{slice_cmp, texts_ties}
 use Rattle.std.proofs.lemmas.Cmp.{nat_list_cmp_total}
-use Rattle.std.proofs.lemmas.Bool.{cases_Bool, ltb-false}
+use Rattle.std.proofs.lemmas.Bool.{cases_Bool, ltb-false, ne_eqb}
 use Rattle.std.proofs.lemmas.Bool.Decides.{eqb_tells}
 use Rattle.std.proofs.lemmas.List.{set-get_or}
 use Rattle.std.proofs.lemmas.Option.{same_Some}
 use Rattle.guid_handles.specs.HandleTables.{same_guid}
 use Rattle.guid_handles.specs.Sorting.{Ascending, place, kept_if}
-use Rattle.guid_handles.specs.Indexes.{Group, AreGroups, IsNext, is_bare, is_group_of, is_before, AscendByGuid, IsPlaceOf, number_beside, stamp_in, stamp_at}
+use Rattle.guid_handles.specs.Indexes.{Group, AreGroups, IsNext, is_bare, is_group_of, is_before, AscendByGuid, IsPlaceOf, SetsStampIn, number_beside, stamp_in, stamp_at}
 use Rattle.guid_handles.proofs.SortedLists.{IsSplit, all_insert, all_mapped, all_remove, all_set, ascending_remove, set_same, find_none, found_none, find_split, find_insert_other, find_insert_new, ascending_insert, map_insert, map_remove, place_map}
 use Rattle.guid_handles.proofs.GuidOrder.{same_guid-true, guid_splits, is_less, less_from, greater_of, and_false, and_true}
 
@@ -151,6 +151,14 @@ held_by g n s e = elim (cases_Bool (is_bare g)) [
   | inr f ↦ f
 ]
 
+-- a group of more than one holder, with one of them gone
+pub still_held : (old new : Group) (h : ℕ) → is_some (stamp_in old h) ≡ true → length old.holders ≢ 1 → length old.holders ≤ length new.holders + 1 → is_bare new ≡ false
+still_held old new h s d f = ne_eqb (length new.holders) 0 (λ z. d (omega (arith, z, f, some_held old.holders old.stamps s)))
+  where
+    some_held : (hs ss : List ℕ) → is_some (number_beside hs ss h) ≡ true → 0 < length hs
+    some_held [] ss t = absurd cc
+    some_held (x ∷ xs) ss t = omega arith
+
 pub groups_set : (groups : List Group) (at : ℕ) (g new : Group) → AreGroups groups → slice_get groups at ≡ Some g → new.guid ≡ g.guid → is_bare new ≡ false → AreGroups (set groups at new)
 groups_set groups at g new a e s b = record {
   ascending = ascend_set groups at g new a.ascending e s;
@@ -231,6 +239,22 @@ find_removed before q (x ∷ xs) h l = elim (cases_Bool (before x)) [
   | inr e ↦ rw e (find_none q xs (h.1 e))
 ]
 
+only_beside : (hs ss : List ℕ) (h n : ℕ) → length hs ≡ 1 → is_some (number_beside hs ss h) ≡ true → None ≡ cond (h == n) None (number_beside hs ss n)
+only_beside [] ss h n l t = absurd (omega (arith, l))
+only_beside (x ∷ y ∷ ys) ss h n l t = absurd (omega (arith, l))
+only_beside (x ∷ []) [] h n l t = absurd cc
+only_beside (x ∷ []) (s ∷ ss) h n l t = elim (eqb_tells h n) [
+  | inl e ↦ rw e.0 refl
+  | inr d ↦ elim (cases_Bool (x == h)) [
+    | inl y ↦ let f : (x == n) ≡ false = ne_eqb x n (λ w. d.1 (sym (is_same x h y) ∙ w)) in rw d.0 (rw f refl)
+    | inr z ↦ let w = rw z at t in absurd cc
+  ]
+]
+
+-- without its only holder a group is bare
+pub only_goes : (g : Group) (h : ℕ) → length g.holders ≡ 1 → is_some (stamp_in g h) ≡ true → SetsStampIn h None g (record g { holders = []; stamps = [] })
+only_goes g h l t = λ n. only_beside g.holders g.stamps h n l t
+
 -- a bare group may go
 pub bare_removed : (groups : List Group) (guid : List ℕ) (at : ℕ) (g new : Group) → AscendByGuid groups → IsPlaceOf guid groups at → slice_get groups at ≡ Some g → new.guid ≡ g.guid → is_bare new ≡ true
     → (k : List ℕ) (n : ℕ) → stamp_at (remove groups at) k n ≡ stamp_at (set groups at new) k n
@@ -249,19 +273,6 @@ bare_removed groups guid at g new a p e s b k n = elim (cases_Bool (same_guid gu
 
 pub none_stamped : (groups : List Group) (guid : List ℕ) (n : ℕ) → find (is_group_of guid) groups ≡ None → stamp_at groups guid n ≡ None
 none_stamped groups guid n e = ap (option_and_then (λ g. stamp_in g n)) e
-
--- no group, no stamp
-pub none_there : (groups : List Group) (guid : List ℕ) (m : ℕ) → find (is_group_of guid) groups ≡ None → (k : List ℕ) (n : ℕ) → stamp_at groups k n ≡ cond ((m == n) && same_guid guid k) None (stamp_at groups k n)
-none_there groups guid m none k n = elim (cases_Bool (same_guid guid k)) [
-  | inl y ↦
-      let e : find (is_group_of k) groups ≡ None = rw (← same_guid-true guid k y) none in
-      rw (y, and_true (m == n)) (same_either (m == n) (stamp_at groups k n) (ap (option_and_then (λ h. stamp_in h n)) e))
-  | inr f ↦ rw (f, and_false (m == n)) refl
-]
-  where
-    same_either : (b : Bool) (o : Option ℕ) → o ≡ None → o ≡ cond b None o
-    same_either true o e = e
-    same_either false o e = refl
 
 -- the handles of a group are those that have a stamp in it
 pub holders_returned : (groups : List Group) (guid : List ℕ) (g : Group) → Some g ≡ find (is_group_of guid) groups → length g.holders ≡ length g.stamps → (n : ℕ) → list_any (λ h. h == n) g.holders ≡ is_some (stamp_at groups guid n)

@@ -165,18 +165,21 @@ impl<A: Allocator + Copy> Groups<A> {
 
     /// Removes a handle from the group at a place, and with its last holder the group.
     fn remove_at(&mut self, at: usize, guid: Uuid, handle: u64)
-        requires { IsPlaceOf guid self.old at }
+        requires place { IsPlaceOf guid self.old at }
+        requires there { is_some (stamp_at self.old guid handle) ≡ true }
         ensures { SetsStamp guid handle None self.old self.new }
     {
         let group = &mut self.groups[at];
-        group.remove(handle);
-        if group.is_bare() {
+        if group.holders().len() == 1 {
             self.groups.remove(at);
+        } else {
+            group.remove(handle);
         }
     }
 
     /// Removes the stamp of the interface of a GUID on a handle.
     pub(crate) fn remove(&mut self, guid: Uuid, handle: u64)
+        requires { is_some (stamp_at self.old guid handle) ≡ true }
         ensures { SetsStamp guid handle None self.old self.new }
     {
         if let Some(at) = place_of(self.groups.as_slice(), guid) {

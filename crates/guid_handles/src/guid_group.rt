@@ -1,7 +1,7 @@
 //! The interfaces of one GUID.
-ghost use Rattle.std.specs.Prelude.{◌≡◌, ◌<◌, ◌==◌, [], length, nat_lt, cond, is_some, true, None, Option, Some, IfOk, OnOk, OnErr};
+ghost use Rattle.std.specs.Prelude.{◌≡◌, ◌+◌, ◌<◌, ◌≤◌, [], length, nat_lt, cond, is_some, true, None, Option, Some, IfOk, OnOk, OnErr};
 ghost use Rattle.guid_handles.specs.Sorting.{Ascending};
-ghost use Rattle.guid_handles.specs.Indexes.{IsNext, SetsStampIn, is_bare, least_after, sooner, stamp_in};
+ghost use Rattle.guid_handles.specs.Indexes.{IsNext, SetsStampIn, least_after, sooner, stamp_in};
 
 use crate::room::{insert_with_room, make_short_room};
 use crate::searches::{count_less_than_new, index_of};
@@ -111,13 +111,6 @@ impl<A: Allocator + Copy> GuidGroup<A> {
         next_after(self.holders.as_slice(), self.stamps.as_slice(), mark)
     }
 
-    /// Whether there are no holders.
-    pub(crate) fn is_bare(&self) -> bool
-        ensures { result ≡ is_bare self.now }
-    {
-        self.holders.as_slice().is_empty()
-    }
-
     /// Adds a handle that is not a holder, and its stamp. On an `Err` the group is as it was.
     pub(crate) fn add(&mut self, handle: u64, stamp: u64) -> Result<(), AllocError>
         requires { stamp_in self.old handle ≡ None }
@@ -137,6 +130,7 @@ impl<A: Allocator + Copy> GuidGroup<A> {
     pub(crate) fn remove(&mut self, handle: u64)
         ensures guid { self.new.guid ≡ self.old.guid }
         ensures stamps { SetsStampIn handle None self.old self.new }
+        ensures fewer { length self.old.holders ≤ length self.new.holders + 1 }
     {
         if let Some(at) = index_of(self.holders.as_slice(), handle) {
             self.holders.remove(at);

@@ -1,8 +1,8 @@
-use Rattle.std.proofs.Common.{refl, ◌≡◌, ◌==◌, ◌&&◌, ◌∙◌, ℕ, List, None, Some, inl, inr, sym}
-use Rattle.std.proofs.lemmas.Bool.{and_parts, cases_Bool}
+use Rattle.std.proofs.Common.{refl, ap, is_some, ◌≡◌, ◌==◌, ◌&&◌, ◌∙◌, ℕ, List, None, Some, inl, inr, sym}
+use Rattle.std.proofs.lemmas.Bool.{and_parts, cases_Bool, eq-eqb}
 use Rattle.guid_handles.specs.HandleTables.{same_guid}
 use Rattle.guid_handles.specs.Indexes.{Group, HaveSameStamps, SetsStamp, stamp_at}
-use Rattle.guid_handles.proofs.GuidOrder.{same_guid-true}
+use Rattle.guid_handles.proofs.GuidOrder.{same_guid-refl, same_guid-true}
 use Rattle.guid_handles.proofs.Grouped.{is_same}
 use Rattle.guid_handles.proofs.Refused.{on_err}
 use Rattle.guid_handles.proofs.handles.file_key.Goals as goal
@@ -15,6 +15,10 @@ stamps_refused old mid new guid n s absent added gone k m = elim (cases_Bool ((n
       gone k m ∙ rw t (sym (rw (is_same n m parts.0, same_guid-true guid k parts.1) at absent))
   | inr f ↦ gone k m ∙ rw f (added k m ∙ rw f refl)
 ]
+
+pub remove-requires : goal.remove-requires
+remove-requires g c =
+    ap is_some (c.in_ok-add.ensures.ok c.args.own.now.guid c.args.own.now.handle) ∙ rw (eq-eqb c.args.own.now.handle c.args.own.now.handle refl, same_guid-refl c.args.own.now.guid) refl
 
 pub returns-in-Err-clause-groups_stay : goal.returns-in-Err-clause-groups_stay
 returns-in-Err-clause-groups_stay g c = stamps_refused _ _ _ c.args.own.now.guid c.args.own.now.handle c.args.own.now.stamp c.requires.absent c.in_ok-add.ensures.ok c.remove.ensures

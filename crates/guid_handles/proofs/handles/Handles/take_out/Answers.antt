@@ -1,10 +1,13 @@
 use Rattle.std.proofs.Common.{sym, ◌∙◌}
 use Rattle.guid_handles.proofs.Found.{carrier_live}
-use Rattle.guid_handles.proofs.Stored.{is_recorded, left_on, stored_kept, stored_less}
+use Rattle.guid_handles.proofs.Stored.{has_stamp, is_recorded, left_on, stored_kept, stored_less}
 use Rattle.guid_handles.proofs.handles.Handles.take_out.Goals as goal
 
 pub drop_record-requires : goal.drop_record-requires
 drop_record-requires g c = record { there = is_recorded _ _ _ _ _ _ c.self.invariant c.args.handle c.args.guid _ (sym c.in-Some.ensures) }
+
+pub remove-requires : goal.remove-requires
+remove-requires g c = has_stamp _ _ _ _ _ _ c.self.invariant c.args.handle c.args.guid _ (sym c.in-Some.ensures)
 
 pub invariant_of-self : goal.invariant_of-self
 invariant_of-self g c =
