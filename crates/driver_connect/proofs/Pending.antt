@@ -8,7 +8,7 @@ use Rattle.guid_handles.specs.HandleTables.{HandleTable, numbers}
 use Rattle.guid_handles.specs.HandleChanges.{IsHandleTable}
 use Rattle.guid_handles.proofs.Filters.{filter_append}
 use Rattle.guid_handles.specs.Sorting.{Ascending, place}
-use Rattle.guid_handles.proofs.SortedLists.{Falls, all_map, all_of, behind_place, filter_same, filter_shorter, map_append}
+use Rattle.guid_handles.proofs.SortedLists.{Falls, after_place, all_map, all_of, filter_same, filter_shorter, map_append}
 use Rattle.protocol_notify.specs.declared.notify.Registration.{Registration}
 use Rattle.driver_connect.specs.declared.connecting.Pending.{Pending}
 use Rattle.driver_connect.specs.Drivers.{Meaning}
@@ -84,7 +84,7 @@ pub made_behind : (last : ℕ) (t : HandleTable) (ns : List ℕ) (at : ℕ) → 
 made_behind last t ns at h e k =
     take_all (length ns - at) (drop at ns) (omega (arith, length-drop at ns))
     ∙ rw (k, e)
-    (behind_place (λ n. not (nat_lt last n)) (numbers t) (numbers_fall last (numbers t) h.ascending)
+    (after_place (λ n. not (nat_lt last n)) (numbers t) (numbers_fall last (numbers t) h.ascending)
     ∙ filter_same (λ n. not (not (nat_lt last n))) (λ n. nat_lt last n) (numbers t) (all_of (λ n. not (not (nat_lt last n)) ≡ nat_lt last n) (λ n. twice (nat_lt last n)) (numbers t)))
   where
     twice : (b : Bool) → not (not b) ≡ b

@@ -72,14 +72,14 @@ keys_next slots ks k d l = rw add-one (next ks k l)
     single y None e = rw e refl
     single y (Some i) e = rw e refl
 
-    behind : (y : ℕ) (js ks : List ℕ) (is : List Interface) (o : Option Interface) → at_key slots y ≡ o → at_keys slots js ≡ at_keys slots ks ++ is → at_keys slots (y ∷ js) ≡ at_keys slots (y ∷ ks) ++ is
-    behind y js ks is None e h = rw e h
-    behind y js ks is (Some i) e h = rw e (ap (λ r. i ∷ r) h)
+    after : (y : ℕ) (js ks : List ℕ) (is : List Interface) (o : Option Interface) → at_key slots y ≡ o → at_keys slots js ≡ at_keys slots ks ++ is → at_keys slots (y ∷ js) ≡ at_keys slots (y ∷ ks) ++ is
+    after y js ks is None e h = rw e h
+    after y js ks is (Some i) e h = rw e (ap (λ r. i ∷ r) h)
 
     next : (ks : List ℕ) (k : ℕ) → k < length ks → at_keys slots (take (suc k) ks) ≡ at_keys slots (take k ks) ++ option_to_list (at_key slots (get_or ks k d))
     next [] k l = absurd (omega (arith, l))
     next (y ∷ ys) zero l = single y (at_key slots y) refl
-    next (y ∷ ys) (suc k) l = behind y (take (suc k) ys) (take k ys) (option_to_list (at_key slots (get_or ys k d))) (at_key slots y) refl (next ys k (omega (arith, l)))
+    next (y ∷ ys) (suc k) l = after y (take (suc k) ys) (take k ys) (option_to_list (at_key slots (get_or ys k d))) (at_key slots y) refl (next ys k (omega (arith, l)))
 
 pub have_long : (slots : List (Option Record)) (ks : List ℕ) (xs : List Interface) → HaveInterfaces slots ks xs → length ks ≡ length xs
 have_long slots [] [] h = refl

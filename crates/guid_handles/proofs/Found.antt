@@ -7,7 +7,7 @@ use Rattle.std.proofs.lemmas.Bool.Decides.{eqb_tells}
 use Rattle.std.proofs.lemmas.Option.{same_Some}
 use Rattle.guid_handles.specs.declared.records.Interface.{Interface}
 use Rattle.guid_handles.specs.declared.records.LiveHandle.{LiveHandle}
-use Rattle.guid_handles.specs.HandleTables.{HandleTable, numbers, has_number, is_of, is_on, is_at, is_live, interface_at, value_at, carries, holders_of, earlier_of, earliest, next_after}
+use Rattle.guid_handles.specs.HandleTables.{HandleTable, numbers, has_number, is_of, is_on, is_at, is_live, interface_at, carries, holders_of, earlier_of, earliest, next_after}
 use Rattle.guid_handles.specs.HandleChanges.{IsHandleTable, without_handle}
 use Rattle.guid_handles.proofs.SortedLists.{all_map, all_filtered, any_found, any_map}
 use Rattle.guid_handles.proofs.Indexed.{at_handle}
@@ -70,19 +70,6 @@ passed p (x ∷ xs) = elim (cases_Bool (p x)) [
 pub holders_carry : (t : HandleTable) (guid : List ℕ) → AllByRecursion (λ n. carries t guid n ≡ true) (holders_of t guid)
 holders_carry t guid = passed (carries t guid) (numbers t)
 
-value_there : (o : Option Interface) → is_some (option_map (λ i. i.value) o) ≡ is_some o
-value_there None = refl
-value_there (Some i) = refl
-
--- where a handle carries a GUID it has a value there
-pub carried_value : (t : HandleTable) (guid : List ℕ) (n : ℕ) → carries t guid n ≡ true → is_some (value_at t n guid) ≡ true
-carried_value t guid n h = value_there (interface_at t n guid) ∙ h
-
-pub first_holder : (t : HandleTable) (guid : List ℕ) (n : ℕ) (ns : List ℕ) → holders_of t guid ≡ n ∷ ns → is_some (value_at t n guid) ≡ true
-first_holder t guid n ns e =
-    let a : AllByRecursion (λ m. carries t guid m ≡ true) (n ∷ ns) = subst (AllByRecursion (λ m. carries t guid m ≡ true)) e (holders_carry t guid) in
-    carried_value t guid n a.0
-
 -- ---- live handles
 
 -- a number is live just where it is among the numbers
@@ -98,13 +85,6 @@ among_own (x ∷ xs) = (
 
 pub numbers_live : (t : HandleTable) → AllByRecursion (λ n. is_live t n ≡ true) (numbers t)
 numbers_live t = all_map (λ n. list_any (λ m. nat_eq m n) (numbers t) ≡ true) (λ n. is_live t n ≡ true) (λ n h. live_is t n ∙ h) (numbers t) (among_own (numbers t))
-
-pub holders_live : (t : HandleTable) (guid : List ℕ) → AllByRecursion (λ n. is_live t n ≡ true) (holders_of t guid)
-holders_live t guid = all_filtered (λ n. is_live t n ≡ true) (λ n. is_live t n ≡ true) (carries t guid) (λ n p h. h) (numbers t) (numbers_live t)
-
-pub first_holder_live : (t : HandleTable) (guid : List ℕ) (n : ℕ) (ns : List ℕ) → holders_of t guid ≡ n ∷ ns → is_live t n ≡ true
-first_holder_live t guid n ns e =
-    let a : AllByRecursion (λ m. is_live t m ≡ true) (n ∷ ns) = subst (AllByRecursion (λ m. is_live t m ≡ true)) e (holders_live t guid) in a.0
 
 -- each interface of a proper table is on a live handle
 pub interfaces_live : (t : HandleTable) → IsHandleTable t → AllByRecursion (λ i. is_live t i.handle ≡ true) t.interfaces
@@ -153,6 +133,3 @@ live_if t h n guid (Some i) e s = (interface_live t h n guid i e).1
 -- a handle that carries a GUID is live
 pub carried_live : (t : HandleTable) → IsHandleTable t → (guid : List ℕ) (n : ℕ) → carries t guid n ≡ true → is_live t n ≡ true
 carried_live t h guid n c = live_if t h n guid (interface_at t n guid) refl c
-
-pub next_live : (t : HandleTable) → IsHandleTable t → (guid : List ℕ) (mark : ℕ) (n : ℕ × ℕ) → next_after t guid mark ≡ Some n → is_live t n.0 ≡ true
-next_live t h guid mark n e = carried_live t h guid n.0 (next_carries t guid mark n e)

@@ -19,9 +19,9 @@ greater_from {R = R} o x y h = o.antisymm y x ∙ ap ordering_reverse h
 pub less_from : {K : Type 0} {R : K → K → Ordering} → IsTotalOrder R → (x y : K) → R x y ≡ Greater → R y x ≡ Less
 less_from {R = R} o x y h = o.antisymm y x ∙ ap ordering_reverse h
 
--- what comes behind something that is not before k is behind k
-pub behind : {K : Type 0} {R : K → K → Ordering} → IsTotalOrder R → (x y k : K) → R x y ≡ Less → R x k ≢ Less → R y k ≡ Greater
-behind {R = R} o x y k h n = elim (cases_Ordering (R x k)) [
+-- what comes after something that is not before k is after k
+pub after : {K : Type 0} {R : K → K → Ordering} → IsTotalOrder R → (x y k : K) → R x y ≡ Less → R x k ≢ Less → R y k ≡ Greater
+after {R = R} o x y k h n = elim (cases_Ordering (R x k)) [
   | inl e ↦ absurd (n e)
   | inr (inl e) ↦ greater_from o k y (sym (o.congr x k y e) ∙ h)
   | inr (inr e) ↦ greater_from o k y (o.trans k x y (less_from o x k e) h)
@@ -39,11 +39,6 @@ not_equal : (o : Ordering) → is_lt o ≡ true → is_eq o ≡ false
 not_equal Less h = refl
 not_equal Equal h = cc
 not_equal Greater h = refl
-
-not_before : (o : Ordering) → is_eq o ≡ true → is_lt o ≡ false
-not_before Less h = cc
-not_before Equal h = refl
-not_before Greater h = cc
 
 pub greater_of : (o : Ordering) → is_lt o ≡ false → is_eq o ≡ false → o ≡ Greater
 greater_of Less h k = cc
@@ -76,20 +71,16 @@ pub and_true : (b : Bool) → (b && true) ≡ b
 and_true true = refl
 and_true false = refl
 
--- a GUID does not come before itself
-pub not_before_itself : (guid : List ℕ) → is_lt (slice_cmp nat_cmp guid guid) ≡ false
-not_before_itself guid = not_before (slice_cmp nat_cmp guid guid) (sym (texts_ties guid guid) ∙ same_guid-refl guid)
-
 -- ---- groups
 
-group_behind : (guid : List ℕ) (g h : Group) → is_before guid g ≡ false → slice_cmp nat_cmp g.guid h.guid ≡ Less → slice_cmp nat_cmp h.guid guid ≡ Greater
-group_behind guid g h b l = behind nat_list_cmp_total g.guid h.guid guid l (not_less (slice_cmp nat_cmp g.guid guid) b)
+group_after : (guid : List ℕ) (g h : Group) → is_before guid g ≡ false → slice_cmp nat_cmp g.guid h.guid ≡ Less → slice_cmp nat_cmp h.guid guid ≡ Greater
+group_after guid g h b l = after nat_list_cmp_total g.guid h.guid guid l (not_less (slice_cmp nat_cmp g.guid guid) b)
 
 pub guid_splits : (guid : List ℕ) (groups : List Group) → AscendByGuid groups → IsSplit (is_before guid) (is_group_of guid) groups
 guid_splits guid [] a = tt
 guid_splits guid (g ∷ gs) a = (
   λ h. texts_ties g.guid guid ∙ not_equal (slice_cmp nat_cmp g.guid guid) h,
-  λ h. all_map (λ k. slice_cmp nat_cmp g.guid k.guid ≡ Less) (λ k. is_group_of guid k ≡ false) (λ k l. texts_ties k.guid guid ∙ ap is_eq (group_behind guid g k h l)) gs
+  λ h. all_map (λ k. slice_cmp nat_cmp g.guid k.guid ≡ Less) (λ k. is_group_of guid k ≡ false) (λ k l. texts_ties k.guid guid ∙ ap is_eq (group_after guid g k h l)) gs
       (all_under (λ k. k.guid) (λ b. slice_cmp nat_cmp g.guid b ≡ Less) gs a.0),
   guid_splits guid gs a.1,
 )
@@ -97,7 +88,7 @@ guid_splits guid (g ∷ gs) a = (
 pub guid_falls : (guid : List ℕ) (groups : List Group) → AscendByGuid groups → Falls (is_before guid) groups
 guid_falls guid [] a = tt
 guid_falls guid (g ∷ gs) a = (
-  λ h. all_map (λ k. slice_cmp nat_cmp g.guid k.guid ≡ Less) (λ k. is_before guid k ≡ false) (λ k l. ap is_lt (group_behind guid g k h l)) gs
+  λ h. all_map (λ k. slice_cmp nat_cmp g.guid k.guid ≡ Less) (λ k. is_before guid k ≡ false) (λ k l. ap is_lt (group_after guid g k h l)) gs
       (all_under (λ k. k.guid) (λ b. slice_cmp nat_cmp g.guid b ≡ Less) gs a.0),
   guid_falls guid gs a.1,
 )

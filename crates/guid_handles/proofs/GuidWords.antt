@@ -40,8 +40,8 @@ first_bytes (a ∷ b ∷ c ∷ d ∷ e ∷ f ∷ g ∷ h ∷ xs) l s =
 same_bytes : (xs ys : List ℕ) → 8 ≤ length xs → 8 ≤ length ys → AreBytes xs → AreBytes ys → from_le_bytes w64 xs ≡ from_le_bytes w64 ys → take 8 xs ≡ take 8 ys
 same_bytes xs ys l m s t e = sym (first_bytes xs l s) ∙ ap (to_le_bytes w64) e ∙ first_bytes ys m t
 
-pub bytes_behind : (xs : List ℕ) (n : ℕ) → AreBytes xs → AreBytes (drop n xs)
-bytes_behind xs n s i = omega (arith, get_or-drop n xs i 0, s (n + i))
+pub bytes_after : (xs : List ℕ) (n : ℕ) → AreBytes xs → AreBytes (drop n xs)
+bytes_after xs n s i = omega (arith, get_or-drop n xs i 0, s (n + i))
 
 -- lists of 16 bytes with the same two numbers are the same
 same_halves : (xs ys : List ℕ) → length xs ≡ 16 → length ys ≡ 16 → AreBytes xs → AreBytes ys
@@ -52,7 +52,7 @@ same_halves xs ys l m s t e f =
     let c : length (drop 8 xs) ≤ 8 = omega (arith, l, length-drop 8 xs) in
     let d : length (drop 8 ys) ≤ 8 = omega (arith, m, length-drop 8 ys) in
     let front = same_bytes xs ys (omega (arith, l)) (omega (arith, m)) s t e in
-    let back = sym (take_all 8 (drop 8 xs) c) ∙ same_bytes (drop 8 xs) (drop 8 ys) a b (bytes_behind xs 8 s) (bytes_behind ys 8 t) f ∙ take_all 8 (drop 8 ys) d in
+    let back = sym (take_all 8 (drop 8 xs) c) ∙ same_bytes (drop 8 xs) (drop 8 ys) a b (bytes_after xs 8 s) (bytes_after ys 8 t) f ∙ take_all 8 (drop 8 ys) d in
     sym (take-append-drop 8 xs) ∙ ap (λ zs. zs ++ drop 8 xs) front ∙ ap (λ zs. take 8 ys ++ zs) back ∙ take-append-drop 8 ys
 
 -- where the first halves are the same, the others decide

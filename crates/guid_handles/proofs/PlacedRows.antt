@@ -101,10 +101,6 @@ kept_rows old new ns ps lists s a = record {
   made = subst (λ (hs : List LiveHandle). AreMadeOn hs lists) (sym (lives_kept old new s ps)) a.made;
 }
 
-pub same_rows : (old new : List (Option Row)) → ((q : ℕ) → row_at new q ≡ row_at old q) → (ps : List ℕ) → rows_at new ps ≡ rows_at old ps
-same_rows old new s [] = refl
-same_rows old new s (p ∷ ps) = rw (s p) (ap (cons_option (row_at old p)) (same_rows old new s ps))
-
 pub same_lives : (old new : List (Option Row)) → ((q : ℕ) → row_at new q ≡ row_at old q) → HaveSameLives old new
 same_lives old new s q = ap (option_map (λ (r : Row). r.live)) (s q)
 

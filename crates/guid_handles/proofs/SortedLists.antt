@@ -1,14 +1,13 @@
 -- Lists in order: where a test stops passing, what is found there, and what insertions, filters and changes keep.
 use Rattle.std.proofs.Math.Seq.{drop-cons}
 use Rattle.std.proofs.Math.ListN.{set}
-use Rattle.std.proofs.Common.{add-one, ◌≡◌, ◌⊎◌, ℕ, zero, suc, ◌+◌, ◌-◌, ◌<◌, ◌≤◌, ◌==◌, ◌||◌, nat_lt, not, subst, Bool, true, false, cond, List, [], ◌∷◌, ◌++◌, map, length, take, drop, get_or, Some, None, is_some, inl, inr, refl, sym, ap, ◌∙◌, arith}
+use Rattle.std.proofs.Common.{add-one, ◌≡◌, ◌⊎◌, ℕ, zero, suc, ◌+◌, ◌-◌, ◌<◌, ◌≤◌, ◌==◌, ◌||◌, nat_lt, not, subst, Bool, true, false, cond, List, [], ◌∷◌, ◌++◌, map, length, drop, get_or, Some, None, is_some, inl, inr, refl, sym, ap, ◌∙◌, arith}
 use Rattle.std.specs.List.{filter, find, list_any, AllByRecursion, slice_get, insert, remove}
 use Rattle.std.specs.List.Sorted.{IsPartitionedBy, IsPartitionPoint}
 use Rattle.std.specs.Option.{option_map}
 use Rattle.std.specs.declared.cmp.Ordering.{Ordering}
 use Rattle.std.specs.declared.cmp.Ordering.TheVariants.{Less, Equal, Greater}
-use Rattle.std.proofs.lemmas.List.Elements.{filter_more}
-use Rattle.std.proofs.lemmas.Bool.{cases_Bool, ne_eqb, ltb-true, ltb-false, le-ltb, lt-ltb}
+use Rattle.std.proofs.lemmas.Bool.{cases_Bool, ne_eqb, ltb-false, le-ltb, lt-ltb}
 use Rattle.std.proofs.lemmas.Bool.Decides.{eqb_tells}
 use Rattle.std.proofs.lemmas.Option.{same_Some}
 use Rattle.guid_handles.specs.HandleTables.{written_over}
@@ -56,7 +55,7 @@ all_get P (x ∷ xs) (suc i) d l h = all_get P xs i d (omega arith) h.1
 
 -- ---- where a test stops passing
 
--- once an item fails the test, all behind it do
+-- once an item fails the test, all after it do
 abbrev pub Falls : {X : Type 0} → (X → Bool) → List X → Type 0
 Falls p [] = Unit {0}
 Falls p (x ∷ xs) = (p x ≡ false → AllByRecursion (λ y. p y ≡ false) xs) × Falls p xs
@@ -78,20 +77,9 @@ place_is p (x ∷ xs) (suc i) l h =
     let e : p x ≡ true = h.0 0 x (omega arith) (omega arith) in
     rw e (ap (λ n. suc n) (place_is p xs i (omega arith) (λ k d a b. h.0 (suc k) d (omega arith) (omega arith), λ k d a b. h.1 (suc k) d (omega arith) (omega arith))))
 
-pub place_le : {X : Type 0} (p : X → Bool) (xs : List X) → place p xs ≤ length xs
-place_le p [] = omega arith
-place_le p (x ∷ xs) = elim (cases_Bool (p x)) [
-  | inl e ↦ rw e (omega (arith, place_le p xs))
-  | inr e ↦ rw e (omega arith)
-]
-
 pub place_map : {X Y : Type 0} (f : X → Y) (p : Y → Bool) (xs : List X) → place p (map f xs) ≡ place (λ x. p (f x)) xs
 place_map f p [] = refl
 place_map f p (x ∷ xs) = ap (λ r. cond (p (f x)) (suc r) 0) (place_map f p xs)
-
-pub place_none : {X : Type 0} (p : X → Bool) (xs : List X) → AllByRecursion (λ y. p y ≡ false) xs → place p xs ≡ 0
-place_none p [] h = refl
-place_none p (x ∷ xs) h = rw h.0 refl
 
 -- ---- what is found
 
@@ -106,7 +94,7 @@ found_none q (x ∷ xs) h = elim (cases_Bool (q x)) [
   | inr e ↦ (e, found_none q xs (rw e at h))
 ]
 
--- those before do not tie, and behind the first that is not before none ties
+-- those before do not tie, and after the first that is not before none ties
 abbrev pub IsSplit : {X : Type 0} → (X → Bool) → (X → Bool) → List X → Type 0
 IsSplit before tie [] = Unit {0}
 IsSplit before tie (x ∷ xs) = (before x ≡ true → tie x ≡ false) × (before x ≡ false → AllByRecursion (λ y. tie y ≡ false) xs) × IsSplit before tie xs
@@ -188,10 +176,6 @@ ascending_insert R trans before (x ∷ xs) y a h = elim (cases_Bool (before x)) 
   | inl e ↦ rw e (all_insert (R x) xs (place before xs) y h.0 (a.0.0 e), ascending_insert R trans before xs y a.1 h.1)
   | inr e ↦ rw e ((a.0.1 e, all_map (R x) (R y) (λ z r. trans y x z (a.0.1 e) r) xs h.0), h)
 ]
-
-pub map_same : {X Y : Type 0} (f : X → X) (g : X → Y) → ((x : X) → g (f x) ≡ g x) → (xs : List X) → map g (map f xs) ≡ map g xs
-map_same f g h [] = refl
-map_same f g h (x ∷ xs) = rw (h x) (ap (λ r. g x ∷ r) (map_same f g h xs))
 
 pub map_insert : {X Y : Type 0} (f : X → Y) (xs : List X) (i : ℕ) (y : X) → map f (insert xs i y) ≡ insert (map f xs) i (f y)
 map_insert f [] zero y = refl
@@ -283,22 +267,6 @@ pub all_numbered : {X : Type 0} (number : X → ℕ) (P Q : ℕ → Type 0) → 
 all_numbered number P Q f [] h = tt
 all_numbered number P Q f (x ∷ xs) h = (f (number x) h.0, all_numbered number P Q f xs h.1)
 
--- items by ascending numbers, none of which is left behind the first that is not below a number
-pub numbers_split : {X : Type 0} (number : X → ℕ) (n : ℕ) (xs : List X) → Ascending (λ a b. a < b) (map number xs) → IsSplit (λ x. nat_lt (number x) n) (λ x. number x == n) xs
-numbers_split number n [] a = tt
-numbers_split number n (x ∷ xs) a = (
-  λ h. ne_eqb (number x) n (λ e. omega (arith, ltb-true (number x) n h)),
-  λ h. all_numbered number (λ m. number x < m) (λ m. (m == n) ≡ false) (λ m l. ne_eqb m n (λ e. omega (arith, ltb-false (number x) n h))) xs a.0,
-  numbers_split number n xs a.1,
-)
-
-pub numbers_fall : {X : Type 0} (number : X → ℕ) (n : ℕ) (xs : List X) → Ascending (λ a b. a < b) (map number xs) → Falls (λ x. nat_lt (number x) n) xs
-numbers_fall number n [] a = tt
-numbers_fall number n (x ∷ xs) a = (
-  λ h. all_numbered number (λ m. number x < m) (λ m. nat_lt m n ≡ false) (λ m l. le-ltb m n (omega (arith, ltb-false (number x) n h))) xs a.0,
-  numbers_fall number n xs a.1,
-)
-
 pub less_fall : (n : ℕ) (xs : List ℕ) → Ascending (λ a b. a < b) xs → Falls (λ x. nat_lt x n) xs
 less_fall n [] a = tt
 less_fall n (x ∷ xs) a = (
@@ -308,21 +276,8 @@ less_fall n (x ∷ xs) a = (
 
 -- ---- loops over a list
 
-pub changed_so_far : {X : Type 0} (f : X → X) (xs : List X) (k : ℕ) (x : X) → k < length xs → x ≡ get_or (map f (take k xs) ++ drop k xs) k x
-    → set (map f (take k xs) ++ drop k xs) k (f x) ≡ map f (take (suc k) xs) ++ drop (suc k) xs
-changed_so_far f [] k x l e = absurd (omega arith)
-changed_so_far f (y ∷ ys) zero x l e = ap (λ r. f r ∷ ys) e
-changed_so_far f (y ∷ ys) (suc k) x l e = ap (λ r. f y ∷ r) (changed_so_far f ys k x (omega arith) e)
-
 pub drop_next : {X : Type 0} (xs : List X) (k : ℕ) (x : X) → k < length xs → x ≡ get_or xs k x → drop k xs ≡ x ∷ drop (k + 1) xs
 drop_next xs k x l e = drop-cons xs k x l ∙ rw add-one (ap (λ y. y ∷ drop (suc k) xs) (sym e))
-
-pub place_order : {X : Type 0} (p q : X → Bool) → ((x : X) → p x ≡ true → q x ≡ true) → (xs : List X) → place p xs ≤ place q xs
-place_order p q h [] = omega arith
-place_order p q h (x ∷ xs) = elim (cases_Bool (p x)) [
-  | inl e ↦ rw e (rw (h x e) (omega (arith, place_order p q h xs)))
-  | inr e ↦ rw e (omega arith)
-]
 
 pub written_more : {X : Type 0} (xs : List X) (y : X) (out : List X) → written_over (xs ++ y ∷ []) out ≡ set (written_over xs out) (length xs) y
 written_more [] y [] = refl
@@ -379,9 +334,6 @@ any_found p (x ∷ xs) = elim (cases_Bool (p x)) [
   | inr e ↦ rw e (any_found p xs)
 ]
 
-pub filter_next : {X : Type 0} (p : X → Bool) (xs : List X) (k : ℕ) (x : X) → k < length xs → x ≡ get_or xs k x → filter p (take (k + 1) xs) ≡ filter p (take k xs) ++ cond (p x) (x ∷ []) []
-filter_next p xs k x l e = filter_more p xs k x l ∙ ap (λ y. filter p (take k xs) ++ cond (p y) (y ∷ []) []) (sym e)
-
 pub one_written : {X : Type 0} (xs : List X) (y : X) (count : ℕ) (now out : List X) → count ≡ length xs → now ≡ written_over xs out → set now count y ≡ written_over (xs ++ y ∷ []) out
 one_written xs y count now out a b = rw a (rw b (sym (written_more xs y out)))
 
@@ -409,11 +361,11 @@ pub filter_whole : {X : Type 0} (p : X → Bool) (xs : List X) → AllByRecursio
 filter_whole p [] h = refl
 filter_whole p (x ∷ xs) h = rw h.0 (ap (λ r. x ∷ r) (filter_whole p xs h.1))
 
--- what is behind the place where a test stops passing does not pass it
-pub behind_place : {X : Type 0} (p : X → Bool) (xs : List X) → Falls p xs → drop (place p xs) xs ≡ filter (λ x. not (p x)) xs
-behind_place p [] f = refl
-behind_place p (x ∷ xs) f = elim (cases_Bool (p x)) [
-  | inl t ↦ rw t (behind_place p xs f.1)
+-- what is after the place where a test stops passing does not pass it
+pub after_place : {X : Type 0} (p : X → Bool) (xs : List X) → Falls p xs → drop (place p xs) xs ≡ filter (λ x. not (p x)) xs
+after_place p [] f = refl
+after_place p (x ∷ xs) f = elim (cases_Bool (p x)) [
+  | inl t ↦ rw t (after_place p xs f.1)
   | inr e ↦ rw e (ap (λ r. x ∷ r) (sym (filter_whole p xs (f.0 e))))
 ]
 

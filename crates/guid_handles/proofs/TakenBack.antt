@@ -1,7 +1,7 @@
 -- Handles above a number go, the last one first, and that number and a stamp are the last again.
-use Rattle.std.proofs.Common.{◌≡◌, ℕ, zero, suc, ◌-◌, ◌<◌, ◌≤◌, ◌==◌, nat_eq, nat_le, not, Bool, true, List, [], ◌∷◌, map, length, Option, Some, None, inl, inr, refl, ap, arith}
+use Rattle.std.proofs.Common.{◌≡◌, ℕ, suc, ◌-◌, ◌<◌, ◌≤◌, ◌==◌, nat_eq, nat_le, not, Bool, true, List, [], ◌∷◌, map, length, Option, Some, inl, inr, refl, ap, arith}
 use Rattle.std.specs.List.{filter, list_any, slice_get, AllByRecursion}
-use Rattle.std.proofs.lemmas.Bool.{cases_Bool, eq-eqb, ne_eqb, leb-true, le-leb}
+use Rattle.std.proofs.lemmas.Bool.{cases_Bool, ne_eqb, leb-true, le-leb}
 use Rattle.std.proofs.lemmas.Option.{same_Some}
 use Rattle.guid_handles.specs.declared.records.Interface.{Interface}
 use Rattle.guid_handles.specs.declared.records.LiveHandle.{LiveHandle}
@@ -26,28 +26,6 @@ last_highest n (x ∷ y ∷ ys) l a e b =
     let i : length (x ∷ y ∷ ys) - 1 ≡ suc (length (y ∷ ys) - 1) = omega arith in
     let rest = last_highest n (y ∷ ys) l a.1 (rw i at e) b in
     (omega (arith, a.0.0, rest.0), rest)
-
-pub last_there : (ns : List ℕ) (l : ℕ) → slice_get ns (length ns - 1) ≡ Some l → list_any (λ m. m == l) ns ≡ true
-last_there [] l e = absurd cc
-last_there (x ∷ []) l e = rw (eq-eqb x l (same_Some x l e)) refl
-last_there (x ∷ y ∷ ys) l e =
-    let i : length (x ∷ y ∷ ys) - 1 ≡ suc (length (y ∷ ys) - 1) = omega arith in
-    elim (cases_Bool (x == l)) [
-      | inl t ↦ rw t refl
-      | inr f ↦ rw f (last_there (y ∷ ys) l (rw i at e))
-    ]
-
-pub none_higher : (n : ℕ) (ns : List ℕ) → slice_get ns (length ns - 1) ≡ None → AllByRecursion (λ k. k ≤ n) ns
-none_higher n [] e = tt
-none_higher n (x ∷ []) e = absurd cc
-none_higher n (x ∷ y ∷ ys) e =
-    let i : length (x ∷ y ∷ ys) - 1 ≡ suc (length (y ∷ ys) - 1) = omega arith in
-    absurd (short (y ∷ ys) (length (y ∷ ys) - 1) (omega arith) (rw i at e))
-  where
-    short : (zs : List ℕ) (k : ℕ) → k < length zs → slice_get zs k ≡ None → ⊥
-    short [] k l w = omega (arith, l)
-    short (z ∷ zs) zero l w = cc
-    short (z ∷ zs) (suc k) l w = short zs k (omega (arith, l)) w
 
 -- ---- one handle goes
 

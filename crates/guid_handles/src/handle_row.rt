@@ -45,7 +45,7 @@ impl<A: Allocator + Copy> HandleRow<A> {
         self.keys.as_slice()
     }
 
-    /// Adds a key behind the others. On an `Err` the row is as it was.
+    /// Adds a key after the others. On an `Err` the row is as it was.
     pub(crate) fn push_key(&mut self, key: usize) -> Result<(), AllocError>
         ensures live { self.new.live ≡ self.old.live }
         ensures ok { OnOk result (self.new.keys ≡ self.old.keys ++ key ∷ []) }

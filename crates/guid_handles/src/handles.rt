@@ -114,7 +114,7 @@ fn drop_record<A: Allocator>(records: &mut Slab<Record, A>, key: usize)
     ensures others { (j : ℕ) → j ≢ key
         → record_at records.new.slots j ≡ record_at records.old.slots j }
 {
-    let _removed = records.try_remove(key);
+    let _removed = records.remove(key);
 }
 
 /// The last of some numbers, if it is above one.
@@ -625,8 +625,7 @@ impl<A: Allocator + Copy> Handles<A> {
     /// Takes back what was made since a number and a stamp were the last that were given: the handles
     /// above the number go, with the interfaces on them. This takes no memory.
     pub fn take_back_to(&mut self, last_number: u64, last_stamp: u64)
-        requires stamp { last_stamp ≤ self.old.last_stamp }
-        requires older { AreOlder last_number last_stamp self.old }
+        requires { AreOlder last_number last_stamp self.old }
         ensures { self.new ≡ taken_back_to last_number last_stamp self.old }
     {
         self.remove_above(last_number);

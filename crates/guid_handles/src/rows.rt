@@ -85,7 +85,7 @@ fn take_row<A: Allocator + Copy>(rows: &mut Slab<HandleRow<A>, A>, place: usize)
     row.live()
 }
 
-/// Adds a key behind the others in the row at a place. On an `Err` each row is as it was.
+/// Adds a key after the others in the row at a place. On an `Err` each row is as it was.
 fn push_key_at<A: Allocator + Copy>(
     rows: &mut Slab<HandleRow<A>, A>,
     place: usize,
@@ -223,7 +223,7 @@ impl<A: Allocator + Copy> Rows<A> {
         }
     }
 
-    /// Adds a key behind the others of a handle. On an `Err` the rows are as they were.
+    /// Adds a key after the others of a handle. On an `Err` the rows are as they were.
     pub(crate) fn push_key(&mut self, number: u64, key: usize) -> Result<(), AllocError>
         requires { is_some (find (is_row_of number) self.old) ≡ true }
         ensures ok { OnOk result (ChangesKeys number (λ ks. ks ++ key ∷ []) self.old self.new) }

@@ -59,12 +59,12 @@ fn is_number_at(numbers: &[u64], at: usize, number: u64) -> bool
     }
 }
 
-/// Where a number is, if none between it and the last one is missing.
-fn likely_index(numbers: &[u64], number: u64) -> usize {
+/// A hint at where a number is: its index, if none between it and the last one is missing.
+fn index_hint(numbers: &[u64], number: u64) -> usize {
     match numbers.last() {
         Some(last) => {
-            let behind = last.wrapping_sub(number);
-            (numbers.len() as u64).wrapping_sub(1).wrapping_sub(behind) as usize
+            let after = last.wrapping_sub(number);
+            (numbers.len() as u64).wrapping_sub(1).wrapping_sub(after) as usize
         }
         None => 0,
     }
@@ -76,9 +76,9 @@ pub(crate) fn index_of(numbers: &[u64], number: u64) -> Option<usize>
     ensures there { IfSome result (λ at. slice_get numbers.now at ≡ Some number) }
     ensures none { IfNone result (has_place numbers.now number ≡ false) }
 {
-    let likely = likely_index(numbers, number);
-    if is_number_at(numbers, likely, number) {
-        return Some(likely);
+    let hint = index_hint(numbers, number);
+    if is_number_at(numbers, hint, number) {
+        return Some(hint);
     }
     let at = count_less(numbers, number);
     if is_number_at(numbers, at, number) {

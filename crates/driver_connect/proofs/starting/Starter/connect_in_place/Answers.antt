@@ -4,8 +4,8 @@ use Rattle.driver_connect.proofs.GoingOn.{made_back, opened_back, those_older}
 use Rattle.driver_connect.proofs.FewHandles.{numbers_rise, stamps_rise}
 use Rattle.driver_connect.proofs.starting.Starter.connect_in_place.Goals as goal
 
-pub take_back_to-requires-clause-older : goal.take_back_to-requires-clause-older
-take_back_to-requires-clause-older g c =
+pub take_back_to-requires : goal.take_back_to-requires
+take_back_to-requires g c =
     let m = rw c.take-connecting.ensures at c.connect_levels-connected.ensures.goes_on in
     rw (c.put_in_place-events.ensures.handles, c.last_number-number.ensures, c.last_stamp-stamp.ensures.stamp)
     (those_older c.args.handles.now c.connect_levels-connected.new.connecting.handles c.all-numbers.ensures.proper m.handles (rw c.last_stamp-stamp.ensures.stamp at c.last_stamp-stamp.ensures.latest))
