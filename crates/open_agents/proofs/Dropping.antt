@@ -28,7 +28,7 @@ drop_removed [] (suc at) = refl
 drop_removed (x ∷ xs) zero = refl
 drop_removed (x ∷ xs) (suc at) = drop_removed xs at
 
--- ---- what is at the places behind
+-- ---- what is at the places after
 
 first_any : (p : OpenRecord → Bool) (s : Option OpenRecord) (os : List OpenRecord) → list_any p (with_first s os) ≡ (passes p s || list_any p os)
 first_any p None os = refl

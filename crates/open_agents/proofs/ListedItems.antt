@@ -36,6 +36,6 @@ written_next' y ys (suc count) [] = sym (nothing_over ys)
 written_next' y ys zero (o ∷ out) = refl
 written_next' y ys (suc count) (o ∷ out) = ap (λ rest. o ∷ rest) (written_next' y ys count out)
 
--- the next item is written behind those before it
+-- the next item is written after those before it
 pub written_next : {X : Type 0} (y : X) (ys : List X) (count : ℕ) (out : List X) → take count out ++ written_over (y ∷ ys) (drop count out) ≡ take (count + 1) (set out count y) ++ written_over ys (drop (count + 1) (set out count y))
 written_next y ys count out = rw add-one (written_next' y ys count out)

@@ -304,20 +304,20 @@ next_free slots near known h m =
 
 -- ---- items that go over to fresh places
 
-all_behind : (P : OpenRecord → Type 0) (xs : List OpenRecord) (o : OpenRecord) (rest : List OpenRecord) → AllByRecursion P (xs ++ o ∷ rest) → P o
-all_behind P [] o rest h = h.0
-all_behind P (x ∷ xs) o rest h = all_behind P xs o rest h.1
+all_after : (P : OpenRecord → Type 0) (xs : List OpenRecord) (o : OpenRecord) (rest : List OpenRecord) → AllByRecursion P (xs ++ o ∷ rest) → P o
+all_after P [] o rest h = h.0
+all_after P (x ∷ xs) o rest h = all_after P xs o rest h.1
 
 pub all_ahead : (P : OpenRecord → Type 0) (xs : List OpenRecord) (o : OpenRecord) (rest all : List OpenRecord) → xs ++ o ∷ rest ≡ all → AllByRecursion P all → P o
-all_ahead P xs o rest all e h = all_behind P xs o rest (rw e h)
+all_ahead P xs o rest all e h = all_after P xs o rest (rw e h)
 
 none_among : (xs : List OpenRecord) (o : OpenRecord) (rest : List OpenRecord) → Ascending (λ o p. are_equal p o ≡ false) (xs ++ o ∷ rest) → list_any (are_equal o) xs ≡ false
 none_among [] o rest d = refl
 none_among (x ∷ xs) o rest d =
-    let f : are_equal o x ≡ false = all_behind (λ p. are_equal p x ≡ false) xs o rest d.0 in
+    let f : are_equal o x ≡ false = all_after (λ p. are_equal p x ≡ false) xs o rest d.0 in
     rw f (none_among xs o rest d.1)
 
--- of unequal items none is equal to one behind it
+-- of unequal items none is equal to one after it
 pub none_ahead : (xs : List OpenRecord) (o : OpenRecord) (rest all : List OpenRecord) → xs ++ o ∷ rest ≡ all → Ascending (λ o p. are_equal p o ≡ false) all → list_any (are_equal o) xs ≡ false
 none_ahead xs o rest all e d = none_among xs o rest (rw e d)
 

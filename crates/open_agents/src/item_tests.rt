@@ -98,7 +98,7 @@ impl ItemTest for OpenOn {
 /// The last item that passes a test, where none does from the index `end` on.
 pub(crate) fn find_last_passing<T: ItemTest>(near: Near<'_>, end: usize, test: &T) -> Option<Found>
     requires bound { end ≤ length near.places.now }
-    requires behind { NoneFrom (T.meaning test.now) near.slots.now near.places.now end }
+    requires after { NoneFrom (T.meaning test.now) near.slots.now near.places.now end }
     ensures { FindsLast (T.meaning test.now) near.entry.slots.now near.entry.places.now result }
 {
     for index in (0..end).rev() {
@@ -119,7 +119,7 @@ pub(crate) fn find_last_of<T: ItemTest>(
     test: &T,
 ) -> Option<usize>
     requires bound { end ≤ length slots.now }
-    requires behind { list_any (T.meaning test.now) (items_in (drop end slots.now)) ≡ false }
+    requires after { list_any (T.meaning test.now) (items_in (drop end slots.now)) ≡ false }
     ensures there { IfSome result (HoldsAt (T.meaning test.now) slots.now) }
     ensures last { IfSome result
         (λ k. list_any (T.meaning test.now) (items_in (drop (k + 1) slots.now)) ≡ false) }

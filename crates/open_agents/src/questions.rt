@@ -145,7 +145,7 @@ pub(crate) fn find_equal(near: Near<'_>, request: &OpenRequest) -> Option<usize>
 /// The place of the last item, where none is at a place from `end` on.
 pub(crate) fn find_last(slots: &[Option<OpenRecord>], end: usize) -> Option<usize>
     requires bound { end ≤ length slots.now }
-    requires behind { items_in (drop end slots.now) ≡ [] }
+    requires after { items_in (drop end slots.now) ≡ [] }
     ensures there { IfSome result (λ k. is_some (there slots.now k) ≡ true) }
     ensures last { IfSome result (λ k. items_in (drop (k + 1) slots.now) ≡ []) }
     ensures none { IfNone result (items_in slots.now ≡ []) }

@@ -155,7 +155,7 @@ impl<A: Allocator + Copy> ItemStore<A> {
     /// The last item near a handle that passes a test, where none does from the index `end` on.
     fn last_below<T: ItemTest>(&self, handle: u64, end: usize, test: &T) -> Option<Found>
         requires bound { end ≤ length (places_from 0 (is_near handle) self.now) }
-        requires behind { NoneFrom (T.meaning test.now)
+        requires after { NoneFrom (T.meaning test.now)
             self.now (places_from 0 (is_near handle) self.now) end }
         ensures { FindsLast (T.meaning test.now)
             self.now (places_from 0 (is_near handle) self.now) result }
@@ -199,11 +199,11 @@ impl<A: Allocator + Copy> ItemStore<A> {
     /// which on none is then.
     fn drop_last(&mut self, end: usize) -> usize
         requires bound { end ≤ length self.old }
-        requires behind { items_in (drop end self.old) ≡ [] }
+        requires after { items_in (drop end self.old) ≡ [] }
         ensures items { items_in self.new
             ≡ take (length (items_in self.old) - 1) (items_in self.old) }
         ensures bound { result ≤ length self.new }
-        ensures behind { items_in (drop result self.new) ≡ [] }
+        ensures after { items_in (drop result self.new) ≡ [] }
     {
         match find_last(self.slots.as_slice(), end) {
             Some(place) => {

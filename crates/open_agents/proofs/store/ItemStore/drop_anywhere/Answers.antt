@@ -1,7 +1,7 @@
 use Rattle.std.proofs.Common.{ap, ◌∙◌}
 use Rattle.std.specs.List.{list_any}
 use Rattle.open_agents.proofs.Asked.{none_dropped}
-use Rattle.open_agents.proofs.LastItems.{vacated_behind, vacated_bound}
+use Rattle.open_agents.proofs.LastItems.{vacated_after, vacated_bound}
 use Rattle.open_agents.proofs.Placed.{held_is, vacated_smaller, without_held}
 use Rattle.open_agents.proofs.store.ItemStore.drop_anywhere.Goals as goal
 
@@ -15,7 +15,7 @@ loop-place-preserved g c =
     record {
       kept = rw c.remove.ensures (without_held test c.loop-place.self c.in-Some.place held ∙ c.loop-place.invariant.kept);
       bound = rw c.remove.ensures (vacated_bound c.loop-place.self c.in-Some.place (held_is test c.loop-place.self c.in-Some.place held));
-      behind = rw c.remove.ensures (ap (list_any test) (vacated_behind c.loop-place.self c.in-Some.place) ∙ rw c.slots.ensures.places at c.in-Some.ensures.last);
+      after = rw c.remove.ensures (ap (list_any test) (vacated_after c.loop-place.self c.in-Some.place) ∙ rw c.slots.ensures.places at c.in-Some.ensures.last);
     }
 
 pub returns : goal.returns

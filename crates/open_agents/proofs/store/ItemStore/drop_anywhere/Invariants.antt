@@ -8,7 +8,7 @@ abbrev pub invariant-loop-place : goal.invariant-loop-place
 invariant-loop-place g l = record {
   kept : without_items (g.T.ItemTest.meaning l.test) (items_in l.self) ≡ without_items (g.T.ItemTest.meaning l.test) (items_in l.fn.self);
   bound : l.end ≤ length l.self;
-  behind : list_any (g.T.ItemTest.meaning l.test) (items_in (drop l.end l.self)) ≡ false;
+  after : list_any (g.T.ItemTest.meaning l.test) (items_in (drop l.end l.self)) ≡ false;
 }
 
 abbrev pub decreases-loop-place : goal.decreases-loop-place

@@ -10,8 +10,8 @@ last_below-found-requires-clause-bound g c =
     let last = rw c.in-Some.is at c.loop-found.invariant.found in
     rw c.remove.ensures (index_bound (is_near c.args.handle) c.loop-found.self c.in-Some.last.place c.in-Some.last.index last.1)
 
-pub last_below-found-requires-clause-behind : goal.last_below-found-requires-clause-behind
-last_below-found-requires-clause-behind g c =
+pub last_below-found-requires-clause-after : goal.last_below-found-requires-clause-after
+last_below-found-requires-clause-after g c =
     let last = rw c.in-Some.is at c.loop-found.invariant.found in
     rw c.remove.ensures (none_from (g.T.ItemTest.meaning c.args.test.now) (is_near c.args.handle) c.loop-found.self c.in-Some.last.place c.in-Some.last.index last.1 last.2)
 

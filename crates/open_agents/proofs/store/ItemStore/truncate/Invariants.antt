@@ -7,7 +7,7 @@ invariant-loop-left g l = record {
   many : l.left ≡ length (items_in l.self);
   first : take l.count (items_in l.self) ≡ take l.count (items_in l.fn.self);
   bound : l.end ≤ length l.self;
-  behind : items_in (drop l.end l.self) ≡ [];
+  after : items_in (drop l.end l.self) ≡ [];
 }
 
 abbrev pub decreases-loop-left : goal.decreases-loop-left
