@@ -2,7 +2,7 @@
 use Rattle.std.proofs.Common.{◌≡◌, ◌≢◌, ℕ, zero, suc, ◌+◌, ◌-◌, ◌<◌, ◌≤◌, ◌==◌, nat_eq, not, Bool, true, false, List, [], ◌∷◌, ◌++◌, map, length, Option, Some, None, is_some, inl, inr, refl, sym, ap, ◌∙◌, arith, append-nil, subst}
 use Rattle.std.specs.List.{filter, find, list_any, slice_get, AllByRecursion, AllZip}
 use Rattle.std.specs.Option.{option_map, option_and_then}
-use Rattle.std.proofs.lemmas.Bool.{cases_Bool, cases_eq, ne_eqb, eq-eqb}
+use Rattle.std.proofs.lemmas.Bool.{and_parts, cases_Bool, cases_eq, ne_eqb, eq-eqb}
 use Rattle.std.proofs.lemmas.Bool.Decides.{eqb_tells}
 use Rattle.std.proofs.lemmas.Option.{same_Some}
 use Rattle.std.proofs.lemmas.List.Elements.{same_from_all_zip}
@@ -12,7 +12,7 @@ use Rattle.guid_handles.specs.declared.records.LiveHandle.{LiveHandle}
 use Rattle.guid_handles.specs.declared.records.Pair.{Pair}
 use Rattle.guid_handles.specs.declared.records.Record.{Record}
 use Rattle.guid_handles.specs.HandleTables.{HandleTable, numbers, same_guid, is_on, is_at, is_live, has_number, carries, holders_of}
-use Rattle.guid_handles.specs.HandleChanges.{IsHandleTable, max_handles, is_taken, has_guid_twice, restamped, with_interfaces, with_handle, with_value, without_handle}
+use Rattle.guid_handles.specs.HandleChanges.{IsHandleTable, max_handles, is_taken, has_guid_twice, restamped, with_interfaces, with_handle, with_value, without_handle, without_interface}
 use Rattle.guid_handles.specs.Sorting.{Ascending}
 use Rattle.guid_handles.specs.Indexes.{Row, Group, ChangesKeys, AreOn, AreAbsent, HaveSameStamps, SetsStamp, lives, is_row_of, row_numbers, keys_of, keys_on, stamp_at}
 use Rattle.guid_handles.specs.Slots.{at_key, at_keys, is_key_of, record_at, installed_until, with_stamp}
@@ -21,11 +21,11 @@ use Rattle.guid_handles.specs.Stores.{AreApart, HaveInterfaces, IsOrdered, IsSto
 use Rattle.guid_handles.proofs.SortedLists.{all_both, all_numbered, any_none, find_filter, find_map, find_push_other, those_among, filter_same, filter_whole, all_of, all_map, all_filter, any_found, any_last, any_member, filter_map_filter, filter_shorter, map_append, ascending_filter, find_none, found_none}
 use Rattle.guid_handles.proofs.Filters.{filter_append, filter_inside, filter_swap, passed}
 use Rattle.guid_handles.proofs.GuidOrder.{and_false, same_guid-refl}
-use Rattle.guid_handles.proofs.Indexed.{restamped_guid, restamped_handle}
+use Rattle.guid_handles.proofs.Indexed.{at_guid, at_handle, restamped_guid, restamped_handle}
 use Rattle.guid_handles.proofs.Apart.{apart_more, apart_restamped, below_more, below_restamped}
 use Rattle.guid_handles.proofs.ProperChanges.{fewer_handles, fewer_interfaces, more_interfaces, one_more, with_stamps}
-use Rattle.guid_handles.proofs.Found.{among_own, carried_live, live_is}
-use Rattle.guid_handles.proofs.Numbered.{find_lives, live_numbers}
+use Rattle.guid_handles.proofs.Found.{among_own, carried_live, gone_dead, live_is}
+use Rattle.guid_handles.proofs.Numbered.{find_lives, keys_mapped, live_numbers, others_mapped, rows_with}
 use Rattle.guid_handles.proofs.Slotted.{AreBelow, tagged, until_changed, until_less, until_more}
 use Rattle.guid_handles.proofs.Grouped.{is_same, some_map}
 use Rattle.guid_handles.proofs.ByGuid.{own_again, stamps_changed, stamps_less, stamps_more}
@@ -571,3 +571,75 @@ module _ (rows : List Row) (slots : List (Option Record)) (groups : List Group) 
 
   pub uncarried : (n : ℕ) (guid : List ℕ) → key_at slots rows guid n ≡ None → carries (table_of rows slots number stamp order) guid n ≡ true → ⊥
   uncarried n guid none h = let w : false ≡ true = sym (ap is_some (stored_at n guid ∙ ap (option_and_then (at_key slots)) none)) ∙ h in cc
+
+-- ---- an interface goes, and with the last one its handle
+
+-- a handle of more than one interface, with one of them gone
+pub others_left : (n : ℕ) (guid : List ℕ) (is : List Interface) → Ascending AreApart is → is_some (find (is_at n guid) is) ≡ true → length (filter (is_on n) is) ≢ 1 → list_any (is_on n) (filter (λ i. not (is_at n guid i)) is) ≡ true
+others_left n guid [] a s d = absurd cc
+others_left n guid (j ∷ js) a s d = elim (cases_Bool (is_at n guid j)) [
+  | inl t ↦
+      let on : is_on n j ≡ true = (and_parts (is_on n j) (same_guid j.guid guid) t).0 in
+      let whole : filter (λ i. not (is_at n guid i)) js ≡ js = filter_whole (is_at n guid) js (all_map (AreApart j) (λ k. is_at n guid k ≡ false) (λ k x. apart_from k x.0 t) js a.0) in
+      let more : list_any (is_on n) js ≡ true = elim (cases_Bool (list_any (is_on n) js)) [
+        | inl y ↦ y
+        | inr z ↦ absurd (rw on at d (one (length (filter (is_on n) js)) (any_counted (is_on n) js ∙ z)))
+      ] in
+      rw t (rw whole more)
+  | inr f ↦ elim (cases_Bool (is_on n j)) [
+    | inl y ↦ rw f (rw y refl)
+    | inr z ↦ rw f (rw z (others_left n guid js a.1 (rw f at s) (rw z at d)))
+  ]
+]
+  where
+    one : (k : ℕ) → not (k == 0) ≡ false → suc k ≡ 1
+    one zero h = refl
+    one (suc k) h =
+        let e : (suc k == 0) ≡ false = ne_eqb (suc k) 0 (λ w. omega (arith, w)) in
+        let w : true ≡ false = rw e at h in cc
+
+    apart_from : (k : Interface) → is_at k.handle k.guid j ≡ false → is_at n guid j ≡ true → is_at n guid k ≡ false
+    apart_from k x t = elim (cases_Bool (is_at n guid k)) [
+      | inl u ↦
+          let f : is_at n guid j ≡ false = subst (λ (g : List ℕ). is_at n g j ≡ false) (at_guid n guid k u) (subst (λ (m : ℕ). is_at m k.guid j ≡ false) (at_handle n guid k u) x) in
+          let w : true ≡ false = sym t ∙ f in cc
+      | inr u ↦ u
+    ]
+
+pub still_on : (rows : List Row) (slots : List (Option Record)) (groups : List Group) (number stamp order : ℕ) → IsStore rows slots groups number stamp order → (n : ℕ) (guid : List ℕ) → length (keys_on rows n) ≢ 1
+    → carries (table_of rows slots number stamp order) guid n ≡ true
+    → (list_any (is_on n) (filter (λ i. not (is_at n guid i)) (installed_until order slots)) ≡ true) × (is_live (table_of rows slots number stamp order) n ≡ true)
+still_on rows slots groups number stamp order s n guid d h = (
+  others_left n guid (installed_until order slots) s.table.apart h (subst (λ (k : ℕ). k ≢ 1) (have_long slots (keys_on rows n) (filter (is_on n) (installed_until order slots)) (s.filed.by_handle n)) d),
+  carried_live (table_of rows slots number stamp order) s.table.proper guid n h,
+)
+
+-- the only key of a handle that carries a GUID is that of the GUID
+pub key_of_last : (rows : List Row) (slots : List (Option Record)) (groups : List Group) (number stamp order : ℕ) → IsStore rows slots groups number stamp order → (n : ℕ) (guid : List ℕ) (key : ℕ) → keys_on rows n ≡ key ∷ []
+    → carries (table_of rows slots number stamp order) guid n ≡ true → key_at slots rows guid n ≡ Some key
+key_of_last rows slots groups number stamp order s n guid key only h = elim (cases_Bool (is_key_of slots guid key)) [
+  | inl t ↦ rw only (rw t refl)
+  | inr f ↦
+      let none : key_at slots rows guid n ≡ None = rw only (rw f refl) in
+      absurd (uncarried rows slots groups number stamp order s n guid none h)
+]
+
+-- the only interface on a handle goes, and the handle with it
+pub stored_last : (rows : List Row) (slots new : List (Option Record)) (groups gs : List Group) (number stamp order n : ℕ) (guid : List ℕ) (key : ℕ) → IsStore rows slots groups number stamp order → keys_on rows n ≡ key ∷ []
+    → key_at slots rows guid n ≡ Some key → record_at new key ≡ None → ((j : ℕ) → j ≢ key → record_at new j ≡ record_at slots j) → SetsStamp guid n None groups gs
+    → (table_of (filter (λ r. not (is_row_of n r)) rows) new number stamp order ≡ without_interface n guid (table_of rows slots number stamp order)) × IsStore (filter (λ r. not (is_row_of n r)) rows) new gs number stamp order
+    × (is_live (table_of (filter (λ r. not (is_row_of n r)) rows) new number stamp order) n ≡ false)
+stored_last rows slots new groups gs number stamp order n guid key s only there none others g =
+    let f : List ℕ → List ℕ = filter (λ k. not (k == key)) in
+    let rs = rows_with n f rows in
+    let c = keys_mapped n f rows refl in
+    let less = stored_less rows slots groups number stamp order s rs new gs n guid key there none others c g in
+    let gone : keys_on rs n ≡ [] = c.keys n ∙ rw (eq-eqb n n refl, only) (rw (eq-eqb key key refl) refl) in
+    let bare : list_any (is_on n) (installed_until order new) ≡ false = sym (left_on rs new gs number stamp order less.1 n) ∙ ap (λ ks. not (length ks == 0)) gone in
+    let rest = stored_bare rs new gs number stamp order less.1 n bare in
+    let unheld : list_any (is_on n) (filter (λ i. not (is_at n guid i)) (installed_until order slots)) ≡ false = ap (λ (t : HandleTable). list_any (is_on n) t.interfaces) (sym less.0) ∙ bare in
+    let same = others_mapped n f rows in (
+      rw unheld (subst (λ (xs : List Row). table_of xs new number stamp order ≡ without_handle n (record (table_of rows slots number stamp order) { interfaces = filter (λ i. not (is_at n guid i)) (installed_until order slots) })) same (rest.0 ∙ ap (without_handle n) less.0)),
+      subst (λ (xs : List Row). IsStore xs new gs number stamp order) same rest.1,
+      subst (λ (xs : List Row). is_live (table_of xs new number stamp order) n ≡ false) same (ap (λ (t : HandleTable). is_live t n) rest.0 ∙ gone_dead (table_of rs new number stamp order) n),
+    )

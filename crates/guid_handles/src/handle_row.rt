@@ -1,5 +1,5 @@
 //! The row of one handle.
-ghost use Rattle.std.specs.Prelude.{◌≡◌, ◌==◌, ◌++◌, [], ◌∷◌, not, length, IfOk, OnOk, OnErr};
+ghost use Rattle.std.specs.Prelude.{◌≡◌, ◌==◌, ◌++◌, [], ◌∷◌, not, IfOk, OnOk, OnErr};
 ghost use Rattle.std.specs.List.{filter};
 
 use crate::records::LiveHandle;
@@ -54,14 +54,12 @@ impl<A: Allocator + Copy> HandleRow<A> {
         self.keys.push(key)
     }
 
-    /// Removes a key, and returns whether others are left.
-    pub(crate) fn remove_key(&mut self, key: usize) -> bool
+    /// Removes a key.
+    pub(crate) fn remove_key(&mut self, key: usize)
         ensures live { self.new.live ≡ self.old.live }
         ensures keys { self.new.keys ≡ filter (λ k. not (k == key)) self.old.keys }
-        ensures left { result ≡ not (length self.new.keys == 0) }
     {
         self.keys.remove(key);
-        !self.keys.as_slice().is_empty()
     }
 }
 

@@ -553,19 +553,14 @@ impl<A: Allocator + Copy> Handles<A> {
         self.install_on_new(Some(Pair { controller, agent }), pairs)
     }
 
-    /// Removes an interface, and leaves its handle. Returns whether others are left on it.
-    fn take_out(&mut self, handle: u64, guid: Uuid) -> bool
-        ensures table { self.new ≡ taken_out handle guid self.old }
-        ensures any { result ≡ list_any (is_on handle) self.new.interfaces }
-        ensures live { result ≡ true → is_live self.new handle ≡ true }
+    /// Removes an interface, and leaves its handle.
+    fn take_out(&mut self, handle: u64, guid: Uuid)
+        ensures { self.new ≡ taken_out handle guid self.old }
     {
-        match key_of(&self.rows, &self.records, handle, guid) {
-            Some(key) => {
-                drop_record(&mut self.records, key);
-                self.groups.remove(guid, handle);
-                self.rows.remove_key(handle, key)
-            }
-            None => self.has_any(handle),
+        if let Some(key) = key_of(&self.rows, &self.records, handle, guid) {
+            drop_record(&mut self.records, key);
+            self.groups.remove(guid, handle);
+            self.rows.remove_key(handle, key);
         }
     }
 
@@ -576,10 +571,13 @@ impl<A: Allocator + Copy> Handles<A> {
         ensures table { self.new ≡ without_interface handle guid self.old }
         ensures gone { result ≡ not (is_live self.new handle) }
     {
-        if self.take_out(handle, guid) {
+        let Some(key) = self.rows.only_key(handle) else {
+            self.take_out(handle, guid);
             return false;
-        }
-        self.remove_bare(handle);
+        };
+        drop_record(&mut self.records, key);
+        self.groups.remove(guid, handle);
+        self.rows.remove(handle);
         true
     }
 

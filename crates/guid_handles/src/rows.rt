@@ -1,9 +1,9 @@
 //! The live handles.
-ghost use Rattle.std.specs.Prelude.{◌≡◌, ◌≢◌, ◌<◌, ◌==◌, ◌++◌, ℕ, [], ◌∷◌, not, length, is_some, true, false, None, Some, IfOk, OnOk, OnErr, option_map};
+ghost use Rattle.std.specs.Prelude.{◌≡◌, ◌≢◌, ◌<◌, ◌==◌, ◌++◌, ℕ, [], ◌∷◌, not, length, is_some, true, false, None, Some, IfSome, IfNone, IfOk, OnOk, OnErr, option_map};
 ghost use Rattle.std.specs.List.{find, filter, AllByRecursion};
 ghost use Rattle.guid_handles.specs.HandleTables.{has_number};
 ghost use Rattle.guid_handles.specs.Sorting.{Ascending};
-ghost use Rattle.guid_handles.specs.Indexes.{AreBeside, lives, row_numbers, keys_on, is_row_of, keys_of, number_beside, row_at, ChangesKeys, ChangesRow};
+ghost use Rattle.guid_handles.specs.Indexes.{AreBeside, lives, row_numbers, keys_on, is_row_of, number_beside, row_at, ChangesKeys, ChangesRow};
 ghost use Rattle.guid_handles.specs.NumberLists.{list_of, with_last, without};
 ghost use Rattle.guid_handles.specs.MadeOn.{ChangesMade, numbers_made_on};
 
@@ -103,15 +103,10 @@ fn push_key_at<A: Allocator + Copy>(
     }
 }
 
-/// Removes a key of the row at a place, and returns whether others are left.
-fn remove_key_at<A: Allocator + Copy>(
-    rows: &mut Slab<HandleRow<A>, A>,
-    place: usize,
-    key: usize,
-) -> bool
+/// Removes a key of the row at a place.
+fn remove_key_at<A: Allocator + Copy>(rows: &mut Slab<HandleRow<A>, A>, place: usize, key: usize)
     requires { is_some (row_at rows.old.slots place) ≡ true }
-    ensures keys { ChangesRow place (filter (λ k. not (k == key))) rows.old.slots rows.new.slots }
-    ensures left { result ≡ not (length (keys_of (row_at rows.new.slots place)) == 0) }
+    ensures { ChangesRow place (filter (λ k. not (k == key))) rows.old.slots rows.new.slots }
 {
     match rows.get_mut(place) {
         Some(row) => row.remove_key(key),
@@ -193,6 +188,17 @@ impl<A: Allocator + Copy> Rows<A> {
         }
     }
 
+    /// The key on a handle that has just one.
+    pub(crate) fn only_key(&self, number: u64) -> Option<usize>
+        ensures there { IfSome result (λ key. keys_on self.now number ≡ key ∷ []) }
+        ensures none { IfNone result (length (keys_on self.now number) ≢ 1) }
+    {
+        match self.keys(number) {
+            [key] => Some(*key),
+            _ => None,
+        }
+    }
+
     /// Adds a handle with a number above all others, and without interfaces. On an `Err` the rows
     /// are as they were.
     pub(crate) fn push(&mut self, live: LiveHandle) -> Result<(), AllocError>
@@ -235,14 +241,12 @@ impl<A: Allocator + Copy> Rows<A> {
         }
     }
 
-    /// Removes a key of a handle, and returns whether others are left.
-    pub(crate) fn remove_key(&mut self, number: u64, key: usize) -> bool
-        ensures keys { ChangesKeys number (filter (λ k. not (k == key))) self.old self.new }
-        ensures left { result ≡ not (length (keys_on self.new number) == 0) }
+    /// Removes a key of a handle.
+    pub(crate) fn remove_key(&mut self, number: u64, key: usize)
+        ensures { ChangesKeys number (filter (λ k. not (k == key))) self.old self.new }
     {
-        match place_of(self.numbers.as_slice(), self.places.as_slice(), number) {
-            Some(place) => remove_key_at(&mut self.rows, place, key),
-            None => false,
+        if let Some(place) = place_of(self.numbers.as_slice(), self.places.as_slice(), number) {
+            remove_key_at(&mut self.rows, place, key);
         }
     }
 }
