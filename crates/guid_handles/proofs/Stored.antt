@@ -626,13 +626,14 @@ key_of_last rows slots groups number stamp order s n guid key only h = elim (cas
 
 -- the only interface on a handle goes, and the handle with it
 pub stored_last : (rows : List Row) (slots new : List (Option Record)) (groups gs : List Group) (number stamp order n : ℕ) (guid : List ℕ) (key : ℕ) → IsStore rows slots groups number stamp order → keys_on rows n ≡ key ∷ []
-    → key_at slots rows guid n ≡ Some key → record_at new key ≡ None → ((j : ℕ) → j ≢ key → record_at new j ≡ record_at slots j) → SetsStamp guid n None groups gs
+    → carries (table_of rows slots number stamp order) guid n ≡ true → record_at new key ≡ None → ((j : ℕ) → j ≢ key → record_at new j ≡ record_at slots j) → SetsStamp guid n None groups gs
     → (table_of (filter (λ r. not (is_row_of n r)) rows) new number stamp order ≡ without_interface n guid (table_of rows slots number stamp order)) × IsStore (filter (λ r. not (is_row_of n r)) rows) new gs number stamp order
     × (is_live (table_of (filter (λ r. not (is_row_of n r)) rows) new number stamp order) n ≡ false)
-stored_last rows slots new groups gs number stamp order n guid key s only there none others g =
+stored_last rows slots new groups gs number stamp order n guid key s only h none others g =
     let f : List ℕ → List ℕ = filter (λ k. not (k == key)) in
     let rs = rows_with n f rows in
     let c = keys_mapped n f rows refl in
+    let there = key_of_last rows slots groups number stamp order s n guid key only h in
     let less = stored_less rows slots groups number stamp order s rs new gs n guid key there none others c g in
     let gone : keys_on rs n ≡ [] = c.keys n ∙ rw (eq-eqb n n refl, only) (rw (eq-eqb key key refl) refl) in
     let bare : list_any (is_on n) (installed_until order new) ≡ false = sym (left_on rs new gs number stamp order less.1 n) ∙ ap (λ ks. not (length ks == 0)) gone in

@@ -1,34 +1,19 @@
 use Rattle.std.proofs.Common.{ap, not, refl, sym, ◌∙◌}
-use Rattle.guid_handles.proofs.Stored.{has_stamp, is_recorded, key_of_last, still_on, stored_last}
+use Rattle.guid_handles.proofs.Stored.{still_on, stored_last}
 use Rattle.guid_handles.proofs.handles.Handles.remove.Goals as goal
 
-pub drop_record-requires : goal.drop_record-requires
-drop_record-requires g c =
-    let key = key_of_last _ _ _ _ _ _ c.self.invariant c.args.handle c.args.guid c.in-Some.key c.in-Some.ensures.there (rw (← c.self.view_is) at c.requires) in
-    record { there = is_recorded _ _ _ _ _ _ c.self.invariant c.args.handle c.args.guid _ key }
-
-pub remove-requires : goal.remove-requires
-remove-requires g c =
-    let key = key_of_last _ _ _ _ _ _ c.self.invariant c.args.handle c.args.guid c.in-Some.key c.in-Some.ensures.there (rw (← c.self.view_is) at c.requires) in
-    has_stamp _ _ _ _ _ _ c.self.invariant c.args.handle c.args.guid _ key
-
 pub invariant_of-self : goal.invariant_of-self
-invariant_of-self g c =
-    let key = key_of_last _ _ _ _ _ _ c.self.invariant c.args.handle c.args.guid c.in-Some.key c.in-Some.ensures.there (rw (← c.self.view_is) at c.requires) in
-    rw c.remove-2.ensures
-    (stored_last _ _ _ _ _ _ _ _ c.args.handle c.args.guid c.in-Some.key c.self.invariant c.in-Some.ensures.there key c.drop_record.ensures.gone c.drop_record.ensures.others c.remove.ensures).1
+invariant_of-self g c = rw c.remove-2.ensures (stored_last _ _ _ _ _ _ _ _ c.args.handle c.args.guid c.in-Some.key c.self.invariant c.in-Some.ensures.there (rw (← c.self.view_is) at c.requires) c.drop_record.ensures.gone c.drop_record.ensures.others c.remove.ensures).1
 
 pub returns-clause-table : goal.returns-clause-table
 returns-clause-table g c =
-    let key = key_of_last _ _ _ _ _ _ c.self.invariant c.args.handle c.args.guid c.in-Some.key c.in-Some.ensures.there (rw (← c.self.view_is) at c.requires) in
     rw (← c.self.view_is, c.remove-2.ensures)
-    (stored_last _ _ _ _ _ _ _ _ c.args.handle c.args.guid c.in-Some.key c.self.invariant c.in-Some.ensures.there key c.drop_record.ensures.gone c.drop_record.ensures.others c.remove.ensures).0
+    (stored_last _ _ _ _ _ _ _ _ c.args.handle c.args.guid c.in-Some.key c.self.invariant c.in-Some.ensures.there (rw (← c.self.view_is) at c.requires) c.drop_record.ensures.gone c.drop_record.ensures.others c.remove.ensures).0
 
 pub returns-clause-gone : goal.returns-clause-gone
 returns-clause-gone g c =
-    let key = key_of_last _ _ _ _ _ _ c.self.invariant c.args.handle c.args.guid c.in-Some.key c.in-Some.ensures.there (rw (← c.self.view_is) at c.requires) in
     rw c.remove-2.ensures
-    (sym (ap not (stored_last _ _ _ _ _ _ _ _ c.args.handle c.args.guid c.in-Some.key c.self.invariant c.in-Some.ensures.there key c.drop_record.ensures.gone c.drop_record.ensures.others c.remove.ensures).2))
+    (sym (ap not (stored_last _ _ _ _ _ _ _ _ c.args.handle c.args.guid c.in-Some.key c.self.invariant c.in-Some.ensures.there (rw (← c.self.view_is) at c.requires) c.drop_record.ensures.gone c.drop_record.ensures.others c.remove.ensures).2))
 
 pub returns-in_default-clause-table : goal.returns-in_default-clause-table
 returns-in_default-clause-table g c =
