@@ -1,10 +1,11 @@
 -- Rows by number: which one is found.
-use Rattle.std.proofs.Common.{◌≡◌, ℕ, ◌==◌, not, true, false, cond, List, [], ◌∷◌, map, None, inl, inr, refl, sym, ap, ◌∙◌}
+use Rattle.std.proofs.Common.{◌≡◌, ℕ, ◌==◌, not, cond, List, [], ◌∷◌, map, None, inl, inr, refl, sym, ap, ◌∙◌}
 use Rattle.std.specs.List.{filter, find}
 use Rattle.std.specs.Option.{option_map}
 use Rattle.std.proofs.lemmas.Bool.{cases_Bool, eq-eqb, ne_eqb}
+use Rattle.std.proofs.lemmas.Bool.Decides.{eqb_tells}
 use Rattle.guid_handles.specs.HandleTables.{has_number}
-use Rattle.guid_handles.specs.Indexes.{Row, ChangesKeys, lives, row_numbers, is_row_of, keys_of, keys_on, with_keys}
+use Rattle.guid_handles.specs.Indexes.{Row, ChangesKeys, lives, row_numbers, is_row_of, keys_of, keys_on}
 use Rattle.guid_handles.proofs.SortedLists.{filter_whole, found_none}
 use Rattle.guid_handles.proofs.Grouped.{is_same}
 
@@ -22,7 +23,7 @@ find_lives n (r ∷ rs) = elim (cases_Bool (is_row_of n r)) [
 -- ---- the keys of one handle change
 
 abbrev with_keys_on : ℕ → (List ℕ → List ℕ) → Row → Row
-with_keys_on n f r = cond (is_row_of n r) (with_keys f r) r
+with_keys_on n f r = record r { keys = cond (is_row_of n r) (f r.keys) r.keys }
 
 -- rows of which those of one handle have other keys
 abbrev pub rows_with : ℕ → (List ℕ → List ℕ) → List Row → List Row
@@ -33,37 +34,27 @@ keys_mapped n f rows z = record { lives = same rows; keys = λ m. found m rows }
   where
     same : (rs : List Row) → lives (rows_with n f rs) ≡ lives rs
     same [] = refl
-    same (r ∷ rs) = elim (cases_Bool (is_row_of n r)) [
-      | inl t ↦ rw t (ap (λ hs. r.live ∷ hs) (same rs))
-      | inr d ↦ rw d (ap (λ hs. r.live ∷ hs) (same rs))
-    ]
+    same (r ∷ rs) = ap (λ hs. r.live ∷ hs) (same rs)
 
     found : (m : ℕ) (rs : List Row) → keys_on (rows_with n f rs) m ≡ cond (n == m) (f (keys_on rs m)) (keys_on rs m)
     found m [] = elim (cases_Bool (n == m)) [
       | inl t ↦ rw t (sym z)
       | inr d ↦ rw d refl
     ]
-    found m (r ∷ rs) = elim (cases_Bool (is_row_of n r)) [
-      | inl t ↦ elim (cases_Bool (is_row_of m r)) [
-        | inl u ↦
-            let e : (n == m) ≡ true = rw (is_same r.live.number n t) at u in
-            rw t (rw u (rw e refl))
-        | inr d ↦ rw t (rw d (found m rs))
-      ]
-      | inr d ↦ elim (cases_Bool (is_row_of m r)) [
-        | inl u ↦
-            let e : (n == m) ≡ false = ne_eqb n m (λ w. let k : (r.live.number == n) ≡ true = eq-eqb r.live.number n (is_same r.live.number m u ∙ sym w) in let v : false ≡ true = sym d ∙ k in cc) in
-            rw d (rw u (rw e refl))
-        | inr g ↦ rw d (rw g (found m rs))
-      ]
+    found m (r ∷ rs) = elim (eqb_tells r.live.number m) [
+      | inl u ↦ rw u.0 (elim (eqb_tells n m) [
+        | inl t ↦ rw (t.0, eq-eqb r.live.number n (u.1 ∙ sym t.1)) refl
+        | inr d ↦ rw (d.0, ne_eqb r.live.number n (λ w. d.1 (sym w ∙ u.1))) refl
+      ])
+      | inr d ↦ rw d.0 (found m rs)
     ]
 
 -- without that handle they are the same
 pub others_mapped : (n : ℕ) (f : List ℕ → List ℕ) (rows : List Row) → filter (λ r. not (is_row_of n r)) (rows_with n f rows) ≡ filter (λ r. not (is_row_of n r)) rows
 others_mapped n f [] = refl
 others_mapped n f (r ∷ rs) = elim (cases_Bool (is_row_of n r)) [
-  | inl t ↦ rw t (rw t (others_mapped n f rs))
-  | inr d ↦ rw d (rw d (ap (λ xs. r ∷ xs) (others_mapped n f rs)))
+  | inl t ↦ rw t (others_mapped n f rs)
+  | inr d ↦ rw d (ap (λ xs. r ∷ xs) (others_mapped n f rs))
 ]
 
 -- no row, nothing that is found
