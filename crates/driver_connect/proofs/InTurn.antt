@@ -8,7 +8,7 @@ use Rattle.driver_connect.specs.declared.starting.Start.{Start}
 use Rattle.driver_connect.specs.Starting.{Site, Progress, Passed, is_supported, is_carried_out, started, pass, passes, agents_for, starts_on}
 use Rattle.driver_connect.specs.Turns.{after_starts, starts_in_turn, AreSupported, times, StartsInTurn}
 
--- ---- starts, and more behind them
+-- ---- starts, and more after them
 
 pub after_more : (c : Site) (xs ys : List Agent) (p : Progress) → after_starts c (xs ++ ys) p ≡ after_starts c ys (after_starts c xs p)
 after_more c [] ys p = refl

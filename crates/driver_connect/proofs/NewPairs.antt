@@ -96,7 +96,7 @@ starts_alike n s u (p ∷ ps) l h = elim (cases_Bool (has_pair u p)) [
 pub none_asked : (t : HandleTable) (opens : List OpenRecord) (set : List Pair) → AreAsked t opens set 0
 none_asked t opens set = (omega arith, λ q h. let k = rw (no_managers t opens) at h in absurd (let e : false ≡ true = k in cc))
 
--- to ask those behind them is a round
+-- to ask those after them is a round
 pub round_of_new : (t : HandleTable) (opens : List OpenRecord) (set : List Pair) (n : ℕ) → AreAsked t opens set n
     → with_pairs set (managers_of_made t opens (drop n set)) ≡ round t opens set
 round_of_new t opens set n h =

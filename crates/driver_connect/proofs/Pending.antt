@@ -25,7 +25,7 @@ pub last_connected : (ds : List Meaning) (rs : List Registration) (xs : List Pen
 last_connected ds rs [] x p = refl
 last_connected ds rs (y ∷ ys) x p = ap (connected y.levels (site ds rs y.handle) []) (last_connected ds rs ys x p)
 
--- some handles behind others are connected before these, in their own order
+-- some handles after others are connected before these, in their own order
 those_last : (ds : List Meaning) (rs : List Registration) (k : ℕ) (ns : List ℕ) (p : Progress)
     → all_connected ds rs (first_last k ns) p ≡ each_connected k ds rs ns p
 those_last ds rs k [] p = refl
@@ -79,9 +79,9 @@ pub numbers_fall : (last : ℕ) (ns : List ℕ) → Ascending (λ a b. a < b) ns
 numbers_fall last [] a = tt
 numbers_fall last (n ∷ ns) a = (λ h. all_map (λ m. n < m) (λ m. not (nat_lt last m) ≡ false) (λ m l. late last n m l h) ns a.0, numbers_fall last ns a.1)
 
--- the handles made are those behind the ones up to the last number
-pub made_behind : (last : ℕ) (t : HandleTable) (ns : List ℕ) (at : ℕ) → IsHandleTable t → ns ≡ numbers t → at ≡ place (λ n. not (nat_lt last n)) ns → take (length ns - at) (drop at ns) ≡ made_after last t
-made_behind last t ns at h e k =
+-- the handles made are those after the ones up to the last number
+pub made_later : (last : ℕ) (t : HandleTable) (ns : List ℕ) (at : ℕ) → IsHandleTable t → ns ≡ numbers t → at ≡ place (λ n. not (nat_lt last n)) ns → take (length ns - at) (drop at ns) ≡ made_after last t
+made_later last t ns at h e k =
     take_all (length ns - at) (drop at ns) (omega (arith, length-drop at ns))
     ∙ rw (k, e)
     (after_place (λ n. not (nat_lt last n)) (numbers t) (numbers_fall last (numbers t) h.ascending)

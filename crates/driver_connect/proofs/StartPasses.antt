@@ -13,15 +13,15 @@ use Rattle.driver_connect.proofs.InTurn.{after_more, fewer, idle, no_agents, not
 
 -- each turn's driver is started exactly where it is supported on the lists as the starts before it left them
 abbrev AreExact : Site → Progress → List Turn → Type 0
-AreExact c p turns = (before : List Turn) (t : Turn) (behind : List Turn) → turns ≡ before ++ t ∷ behind → t.is_started ≡ is_supported c (after_starts c (started_in before) p) t.agent
+AreExact c p turns = (before : List Turn) (t : Turn) (after : List Turn) → turns ≡ before ++ t ∷ after → t.is_started ≡ is_supported c (after_starts c (started_in before) p) t.agent
 
 -- one turn more, before the others, which go on from where it leads
 exact_more : (c : Site) (p q : Progress) (first : Turn) (turns : List Turn) → first.is_started ≡ is_supported c p first.agent → ((before : List Turn) → after_starts c (started_in (first ∷ before)) p ≡ after_starts c (started_in before) q) → AreExact c q turns → AreExact c p (first ∷ turns)
-exact_more c p q first turns here on rest [] t behind e = let same : first ≡ t = cc in subst (λ (u : Turn). u.is_started ≡ is_supported c p u.agent) same here
-exact_more c p q first turns here on rest (b ∷ before) t behind e =
+exact_more c p q first turns here on rest [] t after e = let same : first ≡ t = cc in subst (λ (u : Turn). u.is_started ≡ is_supported c p u.agent) same here
+exact_more c p q first turns here on rest (b ∷ before) t after e =
     let same : first ≡ b = cc in
-    let others : turns ≡ before ++ t ∷ behind = cc in
-    rest before t behind others ∙ ap (λ (s : Progress). is_supported c s t.agent) (sym (on before) ∙ ap (λ (u : Turn). after_starts c (started_in (u ∷ before)) p) same)
+    let others : turns ≡ before ++ t ∷ after = cc in
+    rest before t after others ∙ ap (λ (s : Progress). is_supported c s t.agent) (sym (on before) ∙ ap (λ (u : Turn). after_starts c (started_in (u ∷ before)) p) same)
 
 record InOnePass (c : Site) (agents : List Agent) (p : Progress) (r : Passed) : Type 0 where
   turns : List Turn
@@ -30,12 +30,12 @@ record InOnePass (c : Site) (agents : List Agent) (p : Progress) (r : Passed) : 
   starts : r.starts ≡ starts_in_turn c (started_in turns) p
   progress : r.progress ≡ after_starts c (started_in turns) p
 
-no_turn : (before : List Turn) (t : Turn) (behind : List Turn) → [] ≡ before ++ t ∷ behind → ⊥
-no_turn [] t behind e = cc
-no_turn (b ∷ before) t behind e = cc
+no_turn : (before : List Turn) (t : Turn) (after : List Turn) → [] ≡ before ++ t ∷ after → ⊥
+no_turn [] t after e = cc
+no_turn (b ∷ before) t after e = cc
 
 one_pass : (c : Site) (agents : List Agent) (p : Progress) → InOnePass c agents p (pass c agents p)
-one_pass c [] p = record { turns = []; is_pass = record { all = refl; exact = λ before t behind e. absurd (no_turn before t behind e) }; left = refl; starts = refl; progress = refl }
+one_pass c [] p = record { turns = []; is_pass = record { all = refl; exact = λ before t after e. absurd (no_turn before t after e) }; left = refl; starts = refl; progress = refl }
 one_pass c (a ∷ agents) p = elim (cases_Bool (is_supported c p a)) [
   | inl e ↦
       let r = one_pass c agents (started c p a) in

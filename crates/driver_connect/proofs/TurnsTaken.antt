@@ -25,7 +25,7 @@ no_start : (starts : List Start) → (length starts == 0) ≡ true → starts �
 no_start [] h = refl
 no_start (s ∷ starts) h = absurd (let k : true ≡ false = sym h ∙ some_start s starts in cc)
 
--- those that are started in turns, and in more turns behind them
+-- those that are started in turns, and in more turns after them
 started_more : (xs ys : List Turn) → started_in (xs ++ ys) ≡ started_in xs ++ started_in ys
 started_more [] ys = refl
 started_more (x ∷ xs) ys = elim (cases_Bool x.is_started) [
@@ -39,7 +39,7 @@ started_first u turns e = rw e refl
 left_first : (u : Turn) (turns : List Turn) → u.is_started ≡ false → started_in (u ∷ turns) ≡ started_in turns
 left_first u turns e = rw e refl
 
--- The turns of a pass, and those behind it: a pass over the drivers that it left if one was started by then.
+-- The turns of a pass, and those after it: a pass over the drivers that it left if one was started by then.
 record InFront (c : Site) (left : List Agent) (b : Bool) (p : Progress) (turns : List Turn) (r : Passed) : Type 0 where
   front : List Turn
   rest : List Turn
@@ -48,11 +48,11 @@ record InFront (c : Site) (left : List Agent) (b : Bool) (p : Progress) (turns :
   progress : after_starts c (started_in front) p ≡ r.progress
   ended : Bool
   flag : ended ≡ (not (length r.starts == 0) || b)
-  behind : AreTurns (followed [] (left ++ r.left) ended) rest
+  after : AreTurns (followed [] (left ++ r.left) ended) rest
   answered : AreAnswered c r.progress rest
 
 front_of : (c : Site) (ahead left : List Agent) (b : Bool) (p : Progress) (turns : List Turn) → AreTurns (followed ahead left b) turns → AreAnswered c p turns → InFront c left b p turns (pass c ahead p)
-front_of c [] left b p turns h k = record { front = []; rest = turns; all = refl; starts = refl; progress = refl; ended = b; flag = refl; behind = rw (append-nil left) h; answered = k }
+front_of c [] left b p turns h k = record { front = []; rest = turns; all = refl; starts = refl; progress = refl; ended = b; flag = refl; after = rw (append-nil left) h; answered = k }
 front_of c (a ∷ ahead) left b p [] h k = absurd cc
 front_of c (a ∷ ahead) left b p (u ∷ turns) h k =
     let same : a ≡ u.agent = same_Some a u.agent h.0 in
@@ -70,7 +70,7 @@ front_of c (a ∷ ahead) left b p (u ∷ turns) h k =
             progress = ap (λ (l : List Agent). after_starts c l p) (started_first u r.front s ∙ ap (λ (x : Agent). x ∷ started_in r.front) (sym same)) ∙ r.progress;
             ended = r.ended;
             flag = r.flag ∙ or_true (not (length (pass c ahead (started c p a)).starts == 0)) ∙ sym (rw (some_start (record { agent = a.handle; is_carried_out = is_carried_out c p a }) (pass c ahead (started c p a)).starts) refl);
-            behind = subst (λ (l : List Agent). AreTurns (followed [] l r.ended) r.rest) (ap (λ (l : List Agent). l ++ (pass c ahead (started c p a)).left) (append-nil left)) r.behind;
+            after = subst (λ (l : List Agent). AreTurns (followed [] l r.ended) r.rest) (ap (λ (l : List Agent). l ++ (pass c ahead (started c p a)).left) (append-nil left)) r.after;
             answered = r.answered;
           })
       | inr e ↦
@@ -86,7 +86,7 @@ front_of c (a ∷ ahead) left b p (u ∷ turns) h k =
             progress = ap (λ (l : List Agent). after_starts c l p) (left_first u r.front s) ∙ r.progress;
             ended = r.ended;
             flag = r.flag;
-            behind = subst (λ (l : List Agent). AreTurns (followed [] l r.ended) r.rest) (append_assoc left (a ∷ []) (pass c ahead p).left) r.behind;
+            after = subst (λ (l : List Agent). AreTurns (followed [] l r.ended) r.rest) (append_assoc left (a ∷ []) (pass c ahead p).left) r.after;
             answered = r.answered;
           })
     ]
@@ -108,14 +108,14 @@ in_all_turns (suc k) c agents p turns l h a =
     elim (cases_Bool (length (pass c agents p).starts == 0)) [
       | inl e ↦
           let f : r.ended ≡ false = r.flag ∙ rw e refl in
-          let none : r.rest ≡ [] = no_turns (followed [] (pass c agents p).left false) r.rest refl (subst (λ (b : Bool). AreTurns (followed [] (pass c agents p).left b) r.rest) f r.behind) in
+          let none : r.rest ≡ [] = no_turns (followed [] (pass c agents p).left false) r.rest refl (subst (λ (b : Bool). AreTurns (followed [] (pass c agents p).left b) r.rest) f r.after) in
           let same : started_in turns ≡ started_in r.front = ap started_in (r.all ∙ ap (λ (l : List Turn). r.front ++ l) none ∙ append-nil r.front) in
           rw e (rw same (r.starts, r.progress))
       | inr e ↦
           let f : r.ended ≡ true = r.flag ∙ rw e refl in
           let some = some_started (pass c agents p).starts e in
           let less : length (pass c agents p).left ≤ k = omega (arith, l, fewer c agents p, some) in
-          let on : AreTurns (pass_over (pass c agents p).left) r.rest = subst (λ (b : Bool). AreTurns (followed [] (pass c agents p).left b) r.rest) f r.behind in
+          let on : AreTurns (pass_over (pass c agents p).left) r.rest = subst (λ (b : Bool). AreTurns (followed [] (pass c agents p).left b) r.rest) f r.after in
           let m = in_all_turns k c (pass c agents p).left (pass c agents p).progress r.rest less on r.answered in
           let both : started_in turns ≡ started_in r.front ++ started_in r.rest = ap started_in r.all ∙ started_more r.front r.rest in
           rw e (rw both (

@@ -79,7 +79,7 @@ same_or [] k a b l = absurd (omega (arith, l))
 same_or (n ∷ ns) zero a b l = refl
 same_or (n ∷ ns) (suc k) a b l = same_or ns k a b (omega (arith, l))
 
--- what the rest of some handles says, by the next and those behind it
+-- what the rest of some handles says, by the next and those after it
 pub next_on : (f : ℕ → Bool) (ns : List ℕ) (i : ℕ) (b u : Bool) → i < length ns → f (get_or ns i 0) ≡ b → u ≡ list_all f (drop i ns) → u ≡ (b && list_all f (drop (i + 1) ns))
 next_on f ns i b u l e h =
     let first : drop i ns ≡ get_or ns i 0 ∷ drop (i + 1) ns = drop_next ns i (get_or ns i 0) l (same_or ns i 0 (get_or ns i 0) l) in

@@ -7,7 +7,7 @@ use Rattle.guid_handles.specs.HandleTables.{HandleTable}
 use Rattle.open_agents.specs.declared.items.OpenRecord.{OpenRecord}
 use Rattle.driver_connect.specs.Starting.{Progress}
 
--- Behind the handles and interfaces that there were are others, on handles with later numbers.
+-- After the handles and interfaces that there were are others, on handles with later numbers.
 pub record HasMade (old new : HandleTable) : Type 0 where
   pub made : List LiveHandle
   pub installed : List Interface
@@ -18,7 +18,7 @@ pub record HasMade (old new : HandleTable) : Type 0 where
   pub number : old.last_number ≤ new.last_number
   pub stamp : old.last_stamp ≤ new.last_stamp
 
--- Behind the items that there were are others.
+-- After the items that there were are others.
 pub record HasOpened (old new : List OpenRecord) : Type 0 where
   pub opened : List OpenRecord
   pub items : new ≡ old ++ opened

@@ -25,7 +25,7 @@ left_in turns = agents_of (filter (λ t. not t.is_started) turns)
 -- exactly where it is supported on the lists as the starts before its turn left them.
 pub record IsPass (c : Site) (agents : List Agent) (p : Progress) (turns : List Turn) : Type 0 where
   pub all : agents_of turns ≡ agents
-  pub exact : (before : List Turn) (t : Turn) (behind : List Turn) → turns ≡ before ++ t ∷ behind
+  pub exact : (before : List Turn) (t : Turn) (after : List Turn) → turns ≡ before ++ t ∷ after
       → t.is_started ≡ is_supported c (after_starts c (started_in before) p) t.agent
 
 -- Passes follow each other: the first goes over all drivers of a list, each other over those that

@@ -24,12 +24,12 @@ abbrev pub with_named : List Meaning → HandleTable → List Agent → ℕ → 
 with_named ds t agents n =
     cond (is_listed agents n) agents (agents ++ cons_option (agent_of ds t n) [])
 
--- the driver handles among those that a caller names, in order, each once, behind others
+-- the driver handles among those that a caller names, in order, each once, after others
 abbrev pub with_all_named : List Meaning → HandleTable → List Agent → List ℕ → List Agent
 with_all_named ds t agents [] = agents
 with_all_named ds t agents (n ∷ ns) = with_all_named ds t (with_named ds t agents n) ns
 
--- an agent goes behind those whose versions are not lower
+-- an agent goes after those whose versions are not lower
 abbrev pub with_agent : List Agent → Agent → List Agent
 with_agent agents a = insert agents (place (λ b. nat_le a.version b.version) agents) a
 

@@ -141,7 +141,7 @@ at_turn l n i p pairs a e f = subst (λ (ps : List (List ℕ × ℕ)). are_free_
 pub carried_at_turn : (l : Lists) (n i : ℕ) (p : List ℕ × ℕ) (pairs : List (List ℕ × ℕ)) → i < length pairs → p ≡ get_or pairs i p → are_free_to_go l n (drop i pairs) ≡ true → carries l.handles p.0 n ≡ true
 carried_at_turn l n i p pairs a e f = served_carries l.handles n p.0 p.1 (free_parts l n p (first_free l n p (drop (i + 1) pairs) (at_turn l n i p pairs a e f))).none
 
--- those behind it are free to go once it is out
+-- those after it are free to go once it is out
 pub free_after : (l : Lists) (n i : ℕ) (p : List ℕ × ℕ) (pairs : List (List ℕ × ℕ)) → i < length pairs → p ≡ get_or pairs i p → are_free_to_go l n (drop i pairs) ≡ true → are_free_to_go (uninstalled_idle n p.0 l) n (drop (i + 1) pairs) ≡ true
 free_after l n i p pairs a e f = next_free l n p (drop (i + 1) pairs) (at_turn l n i p pairs a e f)
 

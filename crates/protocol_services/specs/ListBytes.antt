@@ -14,6 +14,6 @@ entry_of i =
     little_bytes 8 i.agent ++ little_bytes 8 i.controller ++ little_bytes 4 i.attributes
     ++ little_bytes 4 i.count
 
--- the entries of open items, one behind the other
+-- the entries of open items, one after the other
 abbrev pub item_bytes : List OpenItem → List ℕ
 item_bytes items = flat_map entry_of items
