@@ -29,8 +29,9 @@ pub use laws::{
     start_order_law, starts_law, stays_law, stop_order_law, stop_set_law, table_plans_law,
     tried_once_law, turns_law, versions_law,
 };
-pub use reconnecting::replace_and_connect;
-pub use stop_order::{children_of, managers_to_stop, pairs_to_stop};
+pub use protocols::Lists;
+pub use reconnecting::Replacement;
+pub use starting::Starter;
 pub use stopping::{StopPlan, disconnect, stop};
 pub use table::TableDriver;
 pub use view::{MAX_CHILDREN, MAX_GUIDS, MAX_PAIRS, ProtocolView, StartPlan, View};

@@ -20,10 +20,10 @@ fn protocol_view<A: Allocator + Copy>(i: &Interface, opens: &Opens<A>) -> Protoc
 
 /// The handles and the open items, and where what is found on them is allocated.
 #[derive(Drop)]
-pub(crate) struct Lists<'a, A: Allocator> {
-    pub(crate) alloc: A,
-    pub(crate) handles: &'a Handles<A>,
-    pub(crate) opens: &'a Opens<A>,
+pub struct Lists<'a, A: Allocator> {
+    pub alloc: A,
+    pub handles: &'a Handles<A>,
+    pub opens: &'a Opens<A>,
 }
 
 impl<'a, A: Allocator + Copy> Lists<'a, A> {

@@ -162,10 +162,10 @@ impl<A: Allocator + Copy> Pass<A> {
 /// What drivers are started by: those that there are, the registrations for the events that this
 /// signals, and where memory is allocated.
 #[derive(Drop)]
-pub(crate) struct Starter<'a, D, A: Allocator> {
-    pub(crate) alloc: A,
-    pub(crate) drivers: &'a [D],
-    pub(crate) notify: &'a Notify<A>,
+pub struct Starter<'a, D, A: Allocator> {
+    pub alloc: A,
+    pub drivers: &'a [D],
+    pub notify: &'a Notify<A>,
 }
 
 impl<'a, D: Driver, A: Allocator + Copy> Starter<'a, D, A> {

@@ -117,17 +117,52 @@ impl<'a, A: Allocator + Copy> Lists<'a, A> {
         true
     }
 
-    /// Whether a stop set can be stopped.
-    fn can_be_stopped<D: Driver>(
+    /// What the stop of some pairs removes. Without pairs this takes no memory.
+    pub fn stop_plan(&self, pairs: &[Pair]) -> Result<StopPlan<A>, AllocError>
+        ensures { IfOk result (λ plan. plan
+            ≡ spec.planned_stop self.now.handles.now self.now.opens.now pairs.now) }
+    {
+        self.stop_plan_of_set(set_of_each(self.alloc, pairs)?)
+    }
+
+    /// The same, where a single pair stays in its memory.
+    pub fn stop_plan_of_vec(&self, pairs: Vec<Pair, A>) -> Result<StopPlan<A>, AllocError>
+        ensures { IfOk result (λ plan. plan
+            ≡ spec.planned_stop self.now.handles.now self.now.opens.now pairs.items) }
+    {
+        self.stop_plan_of_set(set_of(self.alloc, pairs)?)
+    }
+
+    /// What the stop of the pairs of a set removes. Where they made no handle, it stops no other pairs.
+    fn stop_plan_of_set(&self, set: Vec<Pair, A>) -> Result<StopPlan<A>, AllocError>
+        ensures { IfOk result (λ plan. (ps : List Pair) → set.items ≡ spec.with_pairs [] ps
+            → plan ≡ spec.planned_stop self.now.handles.now self.now.opens.now ps) }
+    {
+        let made = made_by(self.alloc, self.handles, set.as_slice())?;
+        if made.is_empty() {
+            return Ok(StopPlan {
+                pairs: set,
+                handles: made,
+            });
+        }
+        let pairs = self.stop_set(set)?;
+        let handles = made_by(self.alloc, self.handles, pairs.as_slice())?;
+        Ok(StopPlan { pairs, handles })
+    }
+
+    /// Whether the pairs of a plan can be stopped, for a call on a handle, and of OpenProtocol also with
+    /// its agent and controller: these and the handle must stay.
+    pub fn can_be_stopped<D: Driver>(
         &self,
+        plan: &StopPlan<A>,
         drivers: &[D],
-        set: &[Pair],
         handle: u64,
         opener: Option<Pair>,
     ) -> Result<bool, AllocError>
         ensures { IfOk result (λ b. b ≡ spec.can_be_stopped (map D.meaning drivers.now)
-            self.now.handles.now self.now.opens.now set.now handle opener) }
+            self.now.handles.now self.now.opens.now plan.now.pairs handle opener) }
     {
+        let set = plan.pairs();
         if !self.may_all_stop(drivers, set)? {
             return Ok(false);
         }
@@ -141,7 +176,7 @@ impl<'a, A: Allocator + Copy> Lists<'a, A> {
 }
 
 /// Removes handles with their interfaces. Of ascending handles the last goes first, so that few are
-/// left behind one that goes.
+/// left after one that goes.
 fn remove_handles<A: Allocator + Copy>(handles: &mut Handles<A>, leaving: &[u64])
     ensures { handles.new ≡ spec.without_handles leaving.now handles.old }
 {
@@ -195,59 +230,6 @@ impl<A: Allocator> Model for StopPlan<A> {
 }
 
 impl<A: Allocator + Copy> StopPlan<A> {
-    /// What the stop of some pairs removes. Without pairs this takes no memory.
-    pub fn new(
-        alloc: A,
-        handles: &Handles<A>,
-        opens: &Opens<A>,
-        pairs: &[Pair],
-    ) -> Result<StopPlan<A>, AllocError>
-        ensures { IfOk result (λ plan. plan ≡ spec.planned_stop handles.now opens.now pairs.now) }
-    {
-        let lists = Lists {
-            alloc,
-            handles,
-            opens,
-        };
-        StopPlan::of_set(&lists, set_of_each(alloc, pairs)?)
-    }
-
-    /// The same, where a single pair stays in its memory.
-    pub fn from_vec(
-        alloc: A,
-        handles: &Handles<A>,
-        opens: &Opens<A>,
-        pairs: Vec<Pair, A>,
-    ) -> Result<StopPlan<A>, AllocError>
-        ensures { IfOk result
-            (λ plan. plan ≡ spec.planned_stop handles.now opens.now pairs.items) }
-    {
-        let lists = Lists {
-            alloc,
-            handles,
-            opens,
-        };
-        StopPlan::of_set(&lists, set_of(alloc, pairs)?)
-    }
-
-    /// What the stop of the pairs of a set removes. Where they made no handle, it stops no other pairs.
-    fn of_set(lists: &Lists<A>, set: Vec<Pair, A>) -> Result<StopPlan<A>, AllocError>
-        ensures { IfOk result
-            (λ plan. (ps : List Pair) → set.items ≡ spec.with_pairs [] ps
-            → plan ≡ spec.planned_stop lists.now.handles.now lists.now.opens.now ps) }
-    {
-        let made = made_by(lists.alloc, lists.handles, set.as_slice())?;
-        if made.is_empty() {
-            return Ok(StopPlan {
-                pairs: set,
-                handles: made,
-            });
-        }
-        let pairs = lists.stop_set(set)?;
-        let handles = made_by(lists.alloc, lists.handles, pairs.as_slice())?;
-        Ok(StopPlan { pairs, handles })
-    }
-
     /// The pairs that the stop stops.
     pub(crate) fn pairs(&self) -> &[Pair]
         ensures { result.now ≡ self.now.pairs }
@@ -268,33 +250,6 @@ impl<A: Allocator + Copy> StopPlan<A> {
     {
         names_any(self.handles.as_slice(), handle, agent, controller)
             || has_pair(self.pairs.as_slice(), Pair { controller, agent })
-    }
-
-    /// Whether the pairs can be stopped, for a call on a handle, and of OpenProtocol also with its agent
-    /// and controller: these and the handle must stay.
-    pub fn can_be_carried_out<D: Driver>(
-        &self,
-        alloc: A,
-        drivers: &[D],
-        handles: &Handles<A>,
-        opens: &Opens<A>,
-        handle: u64,
-        opener: Option<Pair>,
-    ) -> Result<bool, AllocError>
-        ensures { IfOk result
-            (λ b. b
-            ≡ spec.can_be_stopped
-            (map D.meaning drivers.now) handles.now opens.now self.now.pairs handle opener) }
-    {
-        if self.pairs.as_slice().is_empty() {
-            return Ok(true);
-        }
-        let lists = Lists {
-            alloc,
-            handles,
-            opens,
-        };
-        lists.can_be_stopped(drivers, self.pairs.as_slice(), handle, opener)
     }
 
     /// Removes the handles with their interfaces, the items that name them, and those of the pairs. This takes no
@@ -330,8 +285,13 @@ pub fn stop<D: Driver, A: Allocator + Copy>(
     ensures err_handles { OnErr result (handles.new ≡ handles.old) }
     ensures err_opens { OnErr result (opens.new ≡ opens.old) }
 {
-    let plan = StopPlan::new(alloc, handles, opens, pairs)?;
-    if !plan.can_be_carried_out(alloc, drivers, handles, opens, handle, opener)? {
+    let lists = Lists {
+        alloc,
+        handles,
+        opens,
+    };
+    let plan = lists.stop_plan(pairs)?;
+    if !lists.can_be_stopped(&plan, drivers, handle, opener)? {
         return Ok(false);
     }
     plan.carry_out(handles, opens);

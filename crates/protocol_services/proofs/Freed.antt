@@ -17,7 +17,7 @@ use Rattle.open_agents.specs.Blocks.{is_near}
 use Rattle.open_agents.specs.OpenItems.{is_keeping, is_kept, is_open_on, names, with_item, without_items}
 use Rattle.protocol_notify.specs.Registrations.{events_for}
 use Rattle.driver_connect.specs.Drivers.{Meaning}
-use Rattle.driver_connect.specs.Starting.{Progress, site}
+use Rattle.driver_connect.specs.Starting.{site}
 use Rattle.driver_connect.specs.Stopping.{PlannedStop, planned_stop, takes_item, can_be_stopped, is_made_by, is_one_of, is_unobstructed, made_by, may_stop, spares_opener, stop_set, without_handles, without_opens}
 use Rattle.driver_connect.specs.Connecting.{ConnectsBelow, first_progress, levels_below}
 use Rattle.driver_connect.proofs.Counts.{connect_counts}
@@ -27,7 +27,7 @@ use Rattle.protocol_services.specs.Opening.{OpensAs, opened_value}
 use Rattle.protocol_services.specs.Stopping.{can_stop}
 use Rattle.protocol_services.specs.Removing.{Reinstalls, Replaces, can_be_freed, drivers_on, freed, is_value, once_freed, reconnected, removal_refusal, replaced, uninstalled, without_dead}
 use Rattle.protocol_services.proofs.OpenCounts.{CountUpTo, one_higher, opened_counts}
-use Rattle.protocol_services.proofs.Raised.{all_left}
+use Rattle.protocol_services.proofs.Raised.{all_left, stays_raised}
 
 -- ---- the handle of a call stays
 
@@ -108,7 +108,7 @@ free_answer ds l handle guid plan near can kept i p asked sure k =
 -- what the stop leaves, without the items on the interface
 pub free_leaves : (l : Lists) (handle : ℕ) (guid : List ℕ) (plan : PlannedStop) (t : HandleTable) (opens : List OpenRecord) → plan ≡ planned_stop l.handles l.opens (drivers_on l.opens handle guid)
     → t ≡ without_handles plan.handles l.handles → opens ≡ without_items (is_open_on handle guid) (without_opens plan.handles plan.pairs l.opens)
-    → record { handles = t; opens = opens; registrations = [] } ≡ freed handle guid (record l { registrations = [] })
+    → record l { handles = t; opens = opens } ≡ freed handle guid l
 free_leaves l handle guid plan t opens p h o = rw h (rw o (rw p refl))
 
 -- ---- what is served
@@ -139,24 +139,21 @@ served_carries t handle guid value h = elim (cases_Bool (is_live t handle)) [
   | inr e ↦ let k = rw e at h in cc
 ]
 
--- and it is there once it is freed
-pub draft_carries : (ds : List Meaning) (l draft : Lists) (handle : ℕ) (guid : List ℕ) (value : ℕ) → removal_refusal l.handles handle guid value ≡ None → can_be_freed ds l handle guid ≡ true
-    → draft ≡ freed handle guid (record l { registrations = [] }) → carries draft.handles guid handle ≡ true
-draft_carries ds l draft handle guid value r h d = rw d (carried_freed ds l handle guid h (served_carries l.handles handle guid value r))
-
 -- ---- how far it is raised
 
--- no number and no stamp was given, and no count rises
+-- no number, stamp or key was given, and no count rises
 pub record IsPart (l m : Lists) : Type 0 where
+  pub registrations : m.registrations ≡ l.registrations
   pub numbers : m.handles.last_number ≡ l.handles.last_number
   pub stamps : m.handles.last_stamp ≡ l.handles.last_stamp
   pub counts : (n : ℕ) → CountUpTo n l.opens → CountUpTo n m.opens
 
 pub part_further : (l m o : Lists) → IsPart l m → IsPart m o → IsPart l o
-part_further l m o a b = record { numbers = b.numbers ∙ a.numbers; stamps = b.stamps ∙ a.stamps; counts = λ n h. b.counts n (a.counts n h) }
+part_further l m o a b = record { registrations = b.registrations ∙ a.registrations; numbers = b.numbers ∙ a.numbers; stamps = b.stamps ∙ a.stamps; counts = λ n h. b.counts n (a.counts n h) }
 
 pub freed_part : (l : Lists) (handle : ℕ) (guid : List ℕ) → IsPart l (freed handle guid l)
 freed_part l handle guid = record {
+  registrations = refl;
   numbers = refl;
   stamps = refl;
   counts = λ n h. all_filter (λ o. o.count ≤ n) (λ o. not (is_open_on handle guid o)) _ (all_left (λ o. o.count ≤ n) _ _ l.opens h);
@@ -176,104 +173,57 @@ bare_stamp n t = elim (cases_Bool (list_any (is_on n) t.interfaces)) [
 
 dead_part : (l : Lists) (handle : ℕ) → IsPart l (without_dead handle l)
 dead_part l handle = elim (cases_Bool (is_live l.handles handle)) [
-  | inl e ↦ rw e record { numbers = refl; stamps = refl; counts = λ n h. h }
-  | inr e ↦ rw e record { numbers = refl; stamps = refl; counts = λ n h. all_filter (λ o. o.count ≤ n) (λ o. not (names handle o)) l.opens h }
+  | inl e ↦ rw e record { registrations = refl; numbers = refl; stamps = refl; counts = λ n h. h }
+  | inr e ↦ rw e record { registrations = refl; numbers = refl; stamps = refl; counts = λ n h. all_filter (λ o. o.count ≤ n) (λ o. not (names handle o)) l.opens h }
 ]
 
 pub uninstalled_part : (l : Lists) (handle : ℕ) (guid : List ℕ) → IsPart l (uninstalled handle guid l)
 uninstalled_part l handle guid =
     part_further l (record l { handles = without_interface handle guid l.handles }) (uninstalled handle guid l)
-    (record { numbers = bare_number handle _; stamps = bare_stamp handle _; counts = λ n h. h }) (dead_part (record l { handles = without_interface handle guid l.handles }) handle)
+    (record { registrations = refl; numbers = bare_number handle _; stamps = bare_stamp handle _; counts = λ n h. h }) (dead_part (record l { handles = without_interface handle guid l.handles }) handle)
+
+-- what is raised after that
+pub part_raised : (l m new : Lists) → IsPart l m → IsRaised m new → IsRaised l new
+part_raised l m new part raised = record {
+  numbers = rw (← part.numbers) raised.numbers;
+  stamps = rw (← part.stamps) raised.stamps;
+  keys = rw (← part.registrations) raised.keys;
+  counts = λ n h. raised.counts n (part.counts n h);
+}
 
 -- an interface that went
-pub uninstalled_raised : (l draft left new : Lists) (handle : ℕ) (guid : List ℕ) → draft ≡ freed handle guid (record l { registrations = [] }) → left ≡ uninstalled handle guid draft
-    → new ≡ record { handles = left.handles; opens = left.opens; registrations = l.registrations } → IsRaised l new
-uninstalled_raised l draft left new handle guid d u e =
-    let start : Lists = record l { registrations = [] } in
-    let part : IsPart start left = rw u (rw d (part_further start (freed handle guid start) (uninstalled handle guid (freed handle guid start)) (freed_part start handle guid) (uninstalled_part (freed handle guid start) handle guid))) in
-    rw e record {
-      numbers = omega (arith, part.numbers);
-      stamps = omega (arith, part.stamps);
-      keys = omega arith;
-      counts = λ n h. one_higher n left.opens (part.counts n h);
-    }
+pub uninstalled_raised : (l m : Lists) (handle : ℕ) (guid : List ℕ) → m ≡ freed handle guid l → IsRaised l (uninstalled handle guid m)
+uninstalled_raised l m handle guid e =
+    rw e (part_raised l (uninstalled handle guid (freed handle guid l)) (uninstalled handle guid (freed handle guid l))
+    (part_further l (freed handle guid l) (uninstalled handle guid (freed handle guid l)) (freed_part l handle guid) (uninstalled_part (freed handle guid l) handle guid)) (stays_raised _))
 
 -- ---- an interface with another value
 
--- a value in place of another, as it is put there
-pub replaced_in_place : (l : Lists) (plan : PlannedStop) (handle : ℕ) (guid : List ℕ) (value : ℕ) (t given : HandleTable) (opens : List OpenRecord) → plan ≡ planned_stop l.handles l.opens (drivers_on l.opens handle guid)
-    → t ≡ without_handles plan.handles l.handles → given ≡ with_value handle guid value t → opens ≡ without_items (is_open_on handle guid) (without_opens plan.handles plan.pairs l.opens)
-    → record l { handles = given; opens = opens } ≡ replaced handle guid value (freed handle guid l)
-replaced_in_place l plan handle guid value t given opens p h g o = rw g (rw h (rw o (rw p refl)))
-
 -- a value in place of another, with all that is connected then
-pub replaced_below : {A : Type 0} (ds : List Meaning) (l mid new : Lists) (handle : ℕ) (guid : List ℕ) (value : ℕ) (given : List ℕ) (events : Vec ℕ A) → mid ≡ replaced handle guid value (freed handle guid l)
-    → given ≡ events_for l.registrations guid → ConnectsBelow (site ds mid.registrations handle) mid.handles mid.opens given events.items new.handles new.opens → new.registrations ≡ mid.registrations
-    → Replaces ds handle guid value (freed handle guid l) events new
-replaced_below ds l mid new handle guid value given events m e c r =
-    let reached : reconnected ds handle mid ≡ reconnected ds handle (replaced handle guid value (freed handle guid l)) = ap (reconnected ds handle) m in
-    let handles = c.0 ∙ ap (λ (q : Progress). q.handles) reached in
-    let opens = c.1 ∙ ap (λ (q : Progress). q.opens) reached in
-    let registered = r ∙ ap (λ (x : Lists). x.registrations) m in (
-      c.2 ∙ ap (λ (es : List ℕ). es ++ (reconnected ds handle mid).events) e ∙ ap (λ (q : Progress). events_for l.registrations guid ++ q.events) reached,
-      rw (← handles, ← opens) (rw (← registered) refl),
-    )
+pub replaced_below : {A : Type 0} {E : Type 0} (ds : List Meaning) (l : Lists) (handle : ℕ) (guid : List ℕ) (value : ℕ) (given : List ℕ) (result : Result (Vec ℕ A) E) (t : HandleTable) (opens : List OpenRecord)
+    → given ≡ events_for l.registrations guid → IfOk result (λ events. ConnectsBelow (site ds l.registrations handle) (with_value handle guid value l.handles) l.opens given events.items t opens)
+    → IfOk result (λ events. Replaces ds handle guid value l events (record l { handles = t; opens = opens }))
+replaced_below ds l handle guid value given (Ok events) t opens e c =
+    (c.2 ∙ ap (λ (es : List ℕ). es ++ (reconnected ds handle (replaced handle guid value l)).events) e, rw (c.0, c.1) refl)
+replaced_below ds l handle guid value given (Err error) t opens e c = tt
 
-pub below_raised : (ds : List Meaning) (l mid new : Lists) (handle : ℕ) (guid : List ℕ) (value : ℕ) (given events : List ℕ) → mid ≡ replaced handle guid value (freed handle guid l)
-    → ConnectsBelow (site ds mid.registrations handle) mid.handles mid.opens given events new.handles new.opens → new.registrations ≡ mid.registrations
-    → new.handles.last_number ≤ mid.handles.last_number + 4096 → new.handles.last_stamp ≤ mid.handles.last_stamp + 16384 → IsRaised l new
-below_raised ds l mid new handle guid value given events m c r numbers stamps =
-    let part : IsPart l (freed handle guid l) = freed_part l handle guid in
-    let number : mid.handles.last_number ≡ l.handles.last_number = ap (λ (x : Lists). x.handles.last_number) m ∙ part.numbers in
-    let stamp : mid.handles.last_stamp ≡ l.handles.last_stamp + 1 = ap (λ (x : Lists). x.handles.last_stamp) m ∙ ap (λ (k : ℕ). k + 1) part.stamps in
-    let opens : mid.opens ≡ (freed handle guid l).opens = ap (λ (x : Lists). x.opens) m in
-    let registered : new.registrations ≡ l.registrations = r ∙ ap (λ (x : Lists). x.registrations) m in
-    record {
-      numbers = omega (arith, number, numbers);
-      stamps = omega (arith, stamp, stamps);
-      keys = rw registered (omega arith);
-      counts = λ k h.
-          let a : CountUpTo (k + 1) mid.opens = rw opens (one_higher k (freed handle guid l).opens (part.counts k h)) in
-          subst (CountUpTo (k + 1)) (sym c.1) (connect_counts (k + 1) (levels_below true) (site ds mid.registrations handle) [] (first_progress mid.handles mid.opens) (omega arith) a);
-    }
+pub below_raised : {A : Type 0} {E : Type 0} (ds : List Meaning) (l : Lists) (handle : ℕ) (guid : List ℕ) (value : ℕ) (given : List ℕ) (result : Result (Vec ℕ A) E) (t : HandleTable) (opens : List OpenRecord)
+    → IfOk result (λ events. ConnectsBelow (site ds l.registrations handle) (with_value handle guid value l.handles) l.opens given events.items t opens)
+    → t.last_number ≤ l.handles.last_number + 4096 → t.last_stamp ≤ l.handles.last_stamp + 16385 → OnOk result (IsRaised l (record l { handles = t; opens = opens }))
+below_raised ds l handle guid value given (Ok events) t opens c numbers stamps = record {
+  numbers = omega (arith, numbers);
+  stamps = omega (arith, stamps);
+  keys = omega arith;
+  counts = λ k h.
+      subst (CountUpTo (k + 1)) (sym c.1) (connect_counts (k + 1) (levels_below true) (site ds l.registrations handle) [] (first_progress (with_value handle guid value l.handles) l.opens) (omega arith) (one_higher k l.opens h));
+}
+below_raised ds l handle guid value given (Err error) t opens c numbers stamps = tt
 
--- the same where the parts of the lists are given
-pub connected_freed : {A : Type 0} (ds : List Meaning) (l new : Lists) (plan : PlannedStop) (handle : ℕ) (guid : List ℕ) (value : ℕ) (given : List ℕ) (events : Vec ℕ A) (t : HandleTable) (opens : List OpenRecord)
-    → plan ≡ planned_stop l.handles l.opens (drivers_on l.opens handle guid) → t ≡ without_handles plan.handles l.handles → opens ≡ without_items (is_open_on handle guid) (without_opens plan.handles plan.pairs l.opens)
-    → given ≡ events_for l.registrations guid → ConnectsBelow (site ds l.registrations handle) (with_value handle guid value t) opens given events.items new.handles new.opens → new.registrations ≡ l.registrations
-    → Replaces ds handle guid value (freed handle guid l) events new
-connected_freed ds l new plan handle guid value given events t opens p h o e c r =
-    replaced_below ds l (record l { handles = with_value handle guid value t; opens = opens }) new handle guid value given events (replaced_in_place l plan handle guid value t (with_value handle guid value t) opens p h refl o) e c r
-
-pub connected_freed_raised : (ds : List Meaning) (l new : Lists) (plan : PlannedStop) (handle : ℕ) (guid : List ℕ) (value : ℕ) (given events : List ℕ) (t : HandleTable) (opens : List OpenRecord)
-    → plan ≡ planned_stop l.handles l.opens (drivers_on l.opens handle guid) → t ≡ without_handles plan.handles l.handles → opens ≡ without_items (is_open_on handle guid) (without_opens plan.handles plan.pairs l.opens)
-    → ConnectsBelow (site ds l.registrations handle) (with_value handle guid value t) opens given events new.handles new.opens → new.registrations ≡ l.registrations
-    → new.handles.last_number ≤ t.last_number + 4096 → new.handles.last_stamp ≤ t.last_stamp + 16385 → IsRaised l new
-connected_freed_raised ds l new plan handle guid value given events t opens p h o c r numbers stamps =
-    below_raised ds l (record l { handles = with_value handle guid value t; opens = opens }) new handle guid value given events (replaced_in_place l plan handle guid value t (with_value handle guid value t) opens p h refl o) c r
-    numbers (omega (arith, stamps))
-
--- the same where memory may run out
-pub freed_or_not : {A : Type 0} {E : Type 0} (ds : List Meaning) (l new : Lists) (plan : PlannedStop) (handle : ℕ) (guid : List ℕ) (value : ℕ) (given : List ℕ) (result : Result (Vec ℕ A) E) (t : HandleTable) (opens : List OpenRecord)
-    → plan ≡ planned_stop l.handles l.opens (drivers_on l.opens handle guid) → t ≡ without_handles plan.handles l.handles → opens ≡ without_items (is_open_on handle guid) (without_opens plan.handles plan.pairs l.opens)
-    → given ≡ events_for l.registrations guid → IfOk result (λ events. ConnectsBelow (site ds l.registrations handle) (with_value handle guid value t) opens given events.items new.handles new.opens) → new.registrations ≡ l.registrations
-    → IfOk result (λ events. Replaces ds handle guid value (freed handle guid l) events new)
-freed_or_not ds l new plan handle guid value given (Ok events) t opens p h o e c r = connected_freed ds l new plan handle guid value given events t opens p h o e c r
-freed_or_not ds l new plan handle guid value given (Err error) t opens p h o e c r = tt
-
-pub freed_raised_or_not : {A : Type 0} {E : Type 0} (ds : List Meaning) (l new : Lists) (plan : PlannedStop) (handle : ℕ) (guid : List ℕ) (value : ℕ) (given : List ℕ) (result : Result (Vec ℕ A) E) (t : HandleTable) (opens : List OpenRecord)
-    → plan ≡ planned_stop l.handles l.opens (drivers_on l.opens handle guid) → t ≡ without_handles plan.handles l.handles → opens ≡ without_items (is_open_on handle guid) (without_opens plan.handles plan.pairs l.opens)
-    → IfOk result (λ events. ConnectsBelow (site ds l.registrations handle) (with_value handle guid value t) opens given events.items new.handles new.opens) → new.registrations ≡ l.registrations
-    → new.handles.last_number ≤ t.last_number + 4096 → new.handles.last_stamp ≤ t.last_stamp + 16385 → OnOk result (IsRaised l new)
-freed_raised_or_not ds l new plan handle guid value given (Ok events) t opens p h o c r numbers stamps = connected_freed_raised ds l new plan handle guid value given events.items t opens p h o c r numbers stamps
-freed_raised_or_not ds l new plan handle guid value given (Err error) t opens p h o c r numbers stamps = tt
-
--- where memory runs out then, the interface is freed
-pub left_freed : {R : Type 0} {E : Type 0} (l : Lists) (plan : PlannedStop) (handle : ℕ) (guid : List ℕ) (result : Result R E) (t new_t : HandleTable) (opens new_opens : List OpenRecord)
-    → plan ≡ planned_stop l.handles l.opens (drivers_on l.opens handle guid) → t ≡ without_handles plan.handles l.handles → opens ≡ without_items (is_open_on handle guid) (without_opens plan.handles plan.pairs l.opens)
-    → OnErr result ((new_t ≡ t) × (new_opens ≡ opens)) → OnErr result (record l { handles = new_t; opens = new_opens } ≡ freed handle guid l)
-left_freed l plan handle guid (Ok returned) t new_t opens new_opens p h o e = tt
-left_freed l plan handle guid (Err error) t new_t opens new_opens p h o e = rw (e.0, e.1, h, o, p) refl
+-- where memory runs out, all stays
+pub all_stays : {R : Type 0} {E : Type 0} (l : Lists) (result : Result R E) (t : HandleTable) (opens : List OpenRecord) → OnErr result ((t ≡ l.handles) × (opens ≡ l.opens))
+    → OnErr result (record l { handles = t; opens = opens } ≡ l)
+all_stays l (Ok returned) t opens e = tt
+all_stays l (Err error) t opens e = rw (e.0, e.1) refl
 
 pub reinstalls : {A : Type 0} (ds : List Meaning) (l new : Lists) (handle : ℕ) (guid : List ℕ) (old value : ℕ) (events : Vec ℕ A) → removal_refusal l.handles handle guid old ≡ None → can_be_freed ds l handle guid ≡ true
     → Replaces ds handle guid value (freed handle guid l) events new → Reinstalls ds l handle guid old value (Ok events) new

@@ -4,15 +4,13 @@ use Rattle.std.proofs.Math.ListN.{drop_of_length-le}
 use Rattle.std.proofs.lemmas.Bool.{cases_Bool}
 use Rattle.page_ranges.specs.declared.statuses.Status.{Status}
 use Rattle.page_ranges.specs.declared.statuses.Status.TheVariants.{AccessDenied, InvalidParameter, OutOfResources}
-use Rattle.guid_handles.specs.HandleTables.{is_live}
-use Rattle.guid_handles.specs.HandleChanges.{without_interface}
 use Rattle.guid_handles.proofs.SortedLists.{drop_next}
 use Rattle.driver_connect.specs.Drivers.{Meaning}
 use Rattle.protocol_services.specs.Lists.{Lists, IsRaised}
 use Rattle.protocol_services.specs.Removing.{Frees, Uninstalls, can_be_freed, freed, removal_refusal, uninstalled}
 use Rattle.protocol_services.specs.RemovingMany.{UninstallsEach, UninstallsMany, all_uninstalled, can_be_uninstalled, max_uninstalled, once_uninstalled, refusal_of_all}
-use Rattle.protocol_services.proofs.Freed.{IsPart, freed_part, part_further, uninstalled_part}
-use Rattle.protocol_services.proofs.OpenCounts.{one_higher}
+use Rattle.protocol_services.proofs.Freed.{IsPart, freed_part, part_further, part_raised, uninstalled_part}
+use Rattle.protocol_services.proofs.Raised.{stays_raised}
 
 -- ---- one of them
 
@@ -72,12 +70,6 @@ only_one (q ∷ r ∷ more) p least below is = absurd (omega arith)
 
 -- ---- what they leave of the other lists
 
-uninstalled_registrations : (handle : ℕ) (guid : List ℕ) (l : Lists) → (uninstalled handle guid l).registrations ≡ l.registrations
-uninstalled_registrations handle guid l = elim (cases_Bool (is_live (without_interface handle guid l.handles) handle)) [
-  | inl e ↦ rw e refl
-  | inr e ↦ rw e refl
-]
-
 frees_registrations : (refusal : Option Status) (can : Bool) (u : Lists) (result : Result (Unit {0}) Status) (l new : Lists) → u.registrations ≡ l.registrations → Frees refusal can (λ done. new ≡ u) result l new → new.registrations ≡ l.registrations
 frees_registrations (Some r) can u (Ok done) l new e h = absurd h
 frees_registrations (Some r) can u (Err status) l new e h = ap (λ (x : Lists). x.registrations) h.1
@@ -89,36 +81,24 @@ frees_registrations None can u (Err status) l new e h = absurd h
 -- a call of UninstallProtocolInterface leaves the registrations
 pub uninstalls_keep : (ds : List Meaning) (l : Lists) (handle : ℕ) (guid : List ℕ) (value : ℕ) (result : Result (Unit {0}) Status) (new : Lists) → Uninstalls ds l handle guid value result new → new.registrations ≡ l.registrations
 uninstalls_keep ds l handle guid value result new h =
-    frees_registrations (removal_refusal l.handles handle guid value) (can_be_freed ds l handle guid) (uninstalled handle guid (freed handle guid l)) result l new (uninstalled_registrations handle guid (freed handle guid l)) h
+    frees_registrations (removal_refusal l.handles handle guid value) (can_be_freed ds l handle guid) (uninstalled handle guid (freed handle guid l)) result l new (uninstalled_part (freed handle guid l) handle guid).registrations h
 
 -- ---- how far all of them raise the lists
 
 once_part : (handle : ℕ) (p : List ℕ × ℕ) (l : Lists) → IsPart l (once_uninstalled handle p l)
 once_part handle p l = part_further l (freed handle p.0 l) (once_uninstalled handle p l) (freed_part l handle p.0) (uninstalled_part (freed handle p.0 l) handle p.0)
 
-all_part : (ds : List Meaning) (handle : ℕ) (pairs : List (List ℕ × ℕ)) (l new : Lists) → all_uninstalled ds handle pairs l ≡ Some new → IsPart l new × (new.registrations ≡ l.registrations)
+all_part : (ds : List Meaning) (handle : ℕ) (pairs : List (List ℕ × ℕ)) (l new : Lists) → all_uninstalled ds handle pairs l ≡ Some new → IsPart l new
 all_part ds handle [] l new e =
     let s : l ≡ new = cc in
-    rw (← s) (record { numbers = refl; stamps = refl; counts = λ n h. h }, refl)
+    rw (← s) record { registrations = refl; numbers = refl; stamps = refl; counts = λ n h. h }
 all_part ds handle (p ∷ pairs) l new e = elim (cases_Bool (can_be_uninstalled ds l handle p)) [
-  | inl t ↦
-      let next = once_uninstalled handle p l in
-      let rest = all_part ds handle pairs next new (rw t at e) in
-      (part_further l next new (once_part handle p l) rest.0, rest.1 ∙ uninstalled_registrations handle p.0 (freed handle p.0 l))
+  | inl t ↦ let next = once_uninstalled handle p l in part_further l next new (once_part handle p l) (all_part ds handle pairs next new (rw t at e))
   | inr f ↦ let n : None ≡ Some new = rw f at e in absurd (cc)
 ]
 
 pub all_raised : (ds : List Meaning) (handle : ℕ) (pairs : List (List ℕ × ℕ)) (l new : Lists) → all_uninstalled ds handle pairs l ≡ Some new → IsRaised l new
-all_raised ds handle pairs l new e =
-    let parts = all_part ds handle pairs l new e in
-    let part : IsPart l new = parts.0 in
-    let keys : length new.registrations ≡ length l.registrations = ap length parts.1 in
-    record {
-      numbers = omega (arith, part.numbers);
-      stamps = omega (arith, part.stamps);
-      keys = omega (arith, keys);
-      counts = λ n h. one_higher n new.opens (part.counts n h);
-    }
+all_raised ds handle pairs l new e = part_raised l new new (all_part ds handle pairs l new e) (stays_raised new)
 
 -- ---- more than are uninstalled at once
 

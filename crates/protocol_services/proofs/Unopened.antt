@@ -3,8 +3,6 @@ use Rattle.std.proofs.Common.{◌≡◌, ℕ, ◌&&◌, not, Bool, true, false, 
 use Rattle.std.specs.List.{filter, list_any}
 use Rattle.std.proofs.lemmas.Bool.{cases_Bool}
 use Rattle.page_ranges.specs.declared.statuses.Status.TheVariants.{AccessDenied}
-use Rattle.guid_handles.specs.HandleTables.{is_live}
-use Rattle.guid_handles.specs.HandleChanges.{without_interface}
 use Rattle.open_agents.specs.OpenItems.{is_driven, is_for_driver, is_kept, is_open_on, items_on}
 use Rattle.guid_handles.specs.declared.records.Pair.{Pair}
 use Rattle.open_agents.specs.declared.items.OpenRecord.{OpenRecord}
@@ -54,16 +52,6 @@ idle_free ds l handle guid e =
 pub idle_freed : (l : Lists) (handle : ℕ) (guid : List ℕ) → is_driven l.opens handle guid ≡ false → freed handle guid l ≡ without_opens_on handle guid l
 idle_freed l handle guid e = ap (without_opens_on handle guid) (once_freed_same l handle guid e)
 
-with_registrations : (l : Lists) (handle : ℕ) (guid : List ℕ) → record (uninstalled handle guid (record l { registrations = [] })) { registrations = l.registrations } ≡ uninstalled handle guid l
-with_registrations l handle guid = elim (cases_Bool (is_live (without_interface handle guid l.handles) handle)) [
-  | inl e ↦ rw e refl
-  | inr e ↦ rw e refl
-]
-
--- What is taken out of lists with no registrations is taken out of all lists.
-pub taken_out : (l left : Lists) (handle : ℕ) (guid : List ℕ) → left ≡ uninstalled_idle handle guid (record l { registrations = [] }) → record left { registrations = l.registrations } ≡ uninstalled_idle handle guid l
-taken_out l left handle guid e = ap (λ (m : Lists). record m { registrations = l.registrations }) e ∙ with_registrations (without_opens_on handle guid l) handle guid
-
 -- It is what UninstallProtocolInterface leaves.
 pub uninstalled_in_place : (ds : List Meaning) (l : Lists) (handle : ℕ) (guid : List ℕ) (value : ℕ) → removal_refusal l.handles handle guid value ≡ None → is_driven l.opens handle guid ≡ false
     → is_kept l.opens handle guid ≡ false → Uninstalls ds l handle guid value (Ok tt) (uninstalled_idle handle guid l)
@@ -72,23 +60,12 @@ uninstalled_in_place ds l handle guid value none idle free =
 
 -- No number is given then, and no count rises.
 pub in_place_raised : (l : Lists) (handle : ℕ) (guid : List ℕ) → is_driven l.opens handle guid ≡ false → IsRaised l (uninstalled_idle handle guid l)
-in_place_raised l handle guid idle =
-    let start : Lists = record l { registrations = [] } in
-    uninstalled_raised l (without_opens_on handle guid start) (uninstalled_idle handle guid start) (uninstalled_idle handle guid l) handle guid (sym (idle_freed start handle guid idle)) refl (sym (with_registrations (without_opens_on handle guid l) handle guid))
+in_place_raised l handle guid idle = uninstalled_raised l (without_opens_on handle guid l) handle guid (sym (idle_freed l handle guid idle))
 
 -- What is kept stays.
 pub kept_in_place : (ds : List Meaning) (l : Lists) (handle : ℕ) (guid : List ℕ) (value : ℕ) → removal_refusal l.handles handle guid value ≡ None → is_driven l.opens handle guid ≡ false
     → is_kept l.opens handle guid ≡ true → Uninstalls ds l handle guid value (Err AccessDenied) l
 kept_in_place ds l handle guid value none idle kept = rw none (idle_free ds l handle guid idle ∙ ap not kept, refl)
-
--- So is what is taken out of lists in which the interface was freed.
-pub uninstalled_once_freed : (ds : List Meaning) (l draft left new : Lists) (handle : ℕ) (guid : List ℕ) (value : ℕ) → removal_refusal l.handles handle guid value ≡ None → can_be_freed ds l handle guid ≡ true
-    → draft ≡ freed handle guid (record l { registrations = [] }) → left ≡ uninstalled handle guid draft → new ≡ record l { handles = left.handles; opens = left.opens } → Uninstalls ds l handle guid value (Ok tt) new
-uninstalled_once_freed ds l draft left new handle guid value none can d u f =
-    rw none (
-      can,
-      f ∙ ap (λ (m : Lists). record l { handles = m.handles; opens = m.opens }) (u ∙ ap (uninstalled handle guid) d) ∙ with_registrations (freed handle guid l) handle guid,
-    )
 
 -- ---- what is put back
 

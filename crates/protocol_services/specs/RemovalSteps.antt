@@ -1,10 +1,11 @@
 -- The steps of a removal: what is stopped to free an interface, and what goes then.
-use Rattle.std.specs.Prelude.{◌≡◌, ℕ, ◌&&◌, not, Bool, List, [], None, IfOk, map, Result, Vec}
+use Rattle.std.specs.Prelude.{◌≡◌, ℕ, ◌&&◌, not, Bool, true, List, None, IfOk, map, Result, Vec}
 use Rattle.page_ranges.specs.declared.statuses.Status.{Status}
-use Rattle.guid_handles.specs.HandleTables.{HandleTable}
+use Rattle.guid_handles.specs.HandleTables.{carries}
 use Rattle.open_agents.specs.declared.items.OpenRecord.{OpenRecord}
 use Rattle.open_agents.specs.OpenItems.{is_keeping}
 use Rattle.driver_connect.specs.Drivers.{Meaning}
+use Rattle.driver_connect.specs.declared.reconnecting.Replacement.{Replacement}
 use Rattle.driver_connect.specs.Stopping.{PlannedStop, planned_stop, takes_item}
 use Rattle.protocol_services.specs.Lists.{Lists}
 use Rattle.protocol_services.specs.Removing.{Frees, Replaces, can_be_freed, drivers_on, freed, uninstalled, without_opens_on}
@@ -24,24 +25,17 @@ abbrev pub keeps_after : PlannedStop → ℕ → List ℕ → OpenRecord → Boo
 keeps_after plan n guid o =
     is_keeping n guid o && not (takes_item plan n o.agent o.controller)
 
--- a handle table and open items as lists with no registrations
-abbrev pub lists_of : HandleTable → List OpenRecord → Lists
-lists_of t opens = record { handles = t; opens = opens; registrations = [] }
-
--- An interface goes from a handle table and open items, and with its last interface its handle.
-abbrev pub TakesOut : ℕ → List ℕ → HandleTable → List OpenRecord → HandleTable → List OpenRecord
-    → Type 0
-TakesOut handle guid t opens new_t new_opens =
-    lists_of new_t new_opens ≡ uninstalled handle guid (lists_of t opens)
-
 -- an interface that no driver has open goes, with the items on it
 abbrev pub uninstalled_idle : ℕ → List ℕ → Lists → Lists
 uninstalled_idle handle guid l = uninstalled handle guid (without_opens_on handle guid l)
 
--- Where events are returned, an interface was freed, a value was put in place of its own, and the
--- handle was connected, by drivers of these meanings.
-abbrev pub FreesAndReplaces : {D A E : Type 0} → (D → Meaning) → List D → Lists → ℕ → List ℕ → ℕ
+-- the interface that a replacement is for is there
+abbrev pub CarriesInterface : Replacement → Lists → Type 0
+CarriesInterface r l = carries l.handles r.guid r.handle ≡ true
+
+-- Where events are returned, a value was put in place of another, and the handle was connected, by
+-- drivers of these meanings.
+abbrev pub ReplacesBy : {D A E : Type 0} → (D → Meaning) → List D → Replacement → Lists
     → Result (Vec ℕ A) E → Lists → Type 0
-FreesAndReplaces meaning drivers l handle guid value result new =
-    IfOk result
-    (λ events. Replaces (map meaning drivers) handle guid value (freed handle guid l) events new)
+ReplacesBy meaning drivers r l result new =
+    IfOk result (λ events. Replaces (map meaning drivers) r.handle r.guid r.value l events new)

@@ -7,7 +7,7 @@ ghost use Rattle.protocol_services.specs.Opening.{Closes, HandlesProtocol, Opens
 ghost use Rattle.protocol_services.specs.OpeningSteps.{OpensAfterStop, OpensAgain, OpensAnew};
 
 use crate::protocols::Protocols;
-use driver_connect::{Driver, StopPlan};
+use driver_connect::Driver;
 use guid_handles::Pair;
 use open_agents::{BY_HANDLE_PROTOCOL, Decision, OpenItem, OpenRequest, TEST_PROTOCOL};
 use page_ranges::Status;
@@ -104,21 +104,17 @@ impl<A: Allocator + Copy> Protocols<A> {
             manager self.old request.now result self.new }
         ensures raised { IsRaised self.old self.new }
     {
-        let Ok(plan) = StopPlan::new(self.alloc, &self.handles, &self.opens, &[manager]) else {
+        let Ok(plan) = self.lists().stop_plan(&[manager]) else {
             return Err(Status::OutOfResources);
         };
         let opener = Pair {
             agent: request.agent,
             controller: request.controller,
         };
-        match plan.can_be_carried_out(
-            self.alloc,
-            drivers,
-            &self.handles,
-            &self.opens,
-            request.handle,
-            Some(opener),
-        ) {
+        match self
+            .lists()
+            .can_be_stopped(&plan, drivers, request.handle, Some(opener))
+        {
             Ok(true) => {}
             Ok(false) => return Err(Status::AccessDenied),
             Err(_) => return Err(Status::OutOfResources),

@@ -60,6 +60,18 @@ impl<A: Allocator + Copy> Protocols<A> {
         &self.opens
     }
 
+    /// The handles and the open items, as drivers are looked for on them.
+    pub(crate) fn lists(&self) -> driver_connect::Lists<'_, A>
+        ensures handles { result.handles.now ≡ self.now.handles }
+        ensures opens { result.opens.now ≡ self.now.opens }
+    {
+        driver_connect::Lists {
+            alloc: self.alloc,
+            handles: &self.handles,
+            opens: &self.opens,
+        }
+    }
+
     /// InstallProtocolInterface: installs an interface on a handle, on a new one for handle 0.
     ///
     /// INVALID_PARAMETER: the kind is not 0 (EFI_NATIVE_INTERFACE), the handle is neither 0 nor live,

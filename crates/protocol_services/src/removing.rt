@@ -4,16 +4,15 @@ ghost use Rattle.std.specs.List.{list_any};
 ghost use Rattle.guid_handles.specs.HandleTables.{carries, value_at};
 ghost use Rattle.open_agents.specs.Blocks.{items_near};
 ghost use Rattle.open_agents.specs.OpenItems.{is_open_on, keeps, without_items};
-ghost use Rattle.driver_connect.specs.Stopping.{without_handles, without_opens};
 ghost use Rattle.protocol_notify.specs.Registrations.{events_for};
 ghost use Rattle.protocol_services.specs.Lists.{HasRoom, IsRaised};
 ghost use Rattle.protocol_services.specs.Removing as spec;
-ghost use Rattle.protocol_services.specs.RemovalSteps.{FreesAndReplaces, PlansToFree, TakesOut, keeps_after, stop_to_free, uninstalled_idle};
+ghost use Rattle.protocol_services.specs.RemovalSteps.{CarriesInterface, PlansToFree, ReplacesBy, keeps_after, stop_to_free, uninstalled_idle};
 ghost use Rattle.protocol_services.specs.RemovingMany.{is_free_to_go};
 
 use crate::protocols::Protocols;
 use crate::stops::drivers_near;
-use driver_connect::{Driver, StopPlan, replace_and_connect};
+use driver_connect::{Driver, Replacement, Starter, StopPlan};
 use guid_handles::{Handles, is_same_guid};
 use open_agents::{BY_CHILD_CONTROLLER, EXCLUSIVE, Near, OpenRecord, Opens, Usage};
 use page_ranges::Status;
@@ -87,24 +86,6 @@ fn is_kept_after<A: Allocator + Copy>(
     near.items().any(|o| keeps_after(plan, o, handle, guid))
 }
 
-/// Carries out the stop that frees an interface, and removes the items that are left on it. This does
-/// not allocate.
-fn free<A: Allocator + Copy>(
-    plan: &StopPlan<A>,
-    handles: &mut Handles<A>,
-    opens: &mut Opens<A>,
-    handle: u64,
-    guid: Uuid,
-)
-    ensures handles { handles.new ≡ without_handles plan.now.handles handles.old }
-    ensures opens { opens.new
-        ≡ without_items
-        (is_open_on handle guid) (without_opens plan.now.handles plan.now.pairs opens.old) }
-{
-    plan.carry_out(handles, opens);
-    opens.drop_interface(handle, guid);
-}
-
 /// Removes the items of an interface, which are not looked for where there are none.
 fn drop_items<A: Allocator + Copy>(items: &mut Opens<A>, is_open: bool, handle: u64, guid: Uuid)
     requires { is_open ≡ list_any (is_open_on handle guid) items.old }
@@ -114,21 +95,6 @@ fn drop_items<A: Allocator + Copy>(items: &mut Opens<A>, is_open: bool, handle: 
         return;
     }
     items.drop_interface(handle, guid);
-}
-
-/// Uninstalls an interface, and with the last one its handle, with the items that name it.
-fn take_out<A: Allocator + Copy>(
-    handles: &mut Handles<A>,
-    opens: &mut Opens<A>,
-    handle: u64,
-    guid: Uuid,
-)
-    requires { carries handles.old guid handle ≡ true }
-    ensures { TakesOut handle guid handles.old opens.old handles.new opens.new }
-{
-    if handles.remove(handle, guid) {
-        opens.drop_handle(handle);
-    }
 }
 
 impl<A: Allocator + Copy> Protocols<A> {
@@ -146,14 +112,7 @@ impl<A: Allocator + Copy> Protocols<A> {
         let Ok(plan) = self.plan_of_drivers(handle, guid) else {
             return Err(Status::OutOfResources);
         };
-        let Ok(can) = plan.can_be_carried_out(
-            self.alloc,
-            drivers,
-            &self.handles,
-            &self.opens,
-            handle,
-            None,
-        ) else {
+        let Ok(can) = self.lists().can_be_stopped(&plan, drivers, handle, None) else {
             return Err(Status::OutOfResources);
         };
         if !can {
@@ -170,7 +129,27 @@ impl<A: Allocator + Copy> Protocols<A> {
         ensures { IfOk result (λ plan. plan ≡ stop_to_free self.now handle guid) }
     {
         let pairs = drivers_near(self.alloc, self.opens.near(handle), handle, guid)?;
-        StopPlan::from_vec(self.alloc, &self.handles, &self.opens, pairs)
+        self.lists().stop_plan_of_vec(pairs)
+    }
+
+    /// Carries out the stop that frees an interface, and removes the items that are left on it. This does
+    /// not allocate.
+    fn free(&mut self, plan: &StopPlan<A>, handle: u64, guid: Uuid)
+        requires { plan.now ≡ stop_to_free self.old handle guid }
+        ensures { self.new ≡ spec.freed handle guid self.old }
+    {
+        plan.carry_out(&mut self.handles, &mut self.opens);
+        self.opens.drop_interface(handle, guid);
+    }
+
+    /// Uninstalls an interface, and with the last one its handle, with the items that name it.
+    fn take_out(&mut self, handle: u64, guid: Uuid)
+        requires { carries self.old.handles guid handle ≡ true }
+        ensures { self.new ≡ spec.uninstalled handle guid self.old }
+    {
+        if self.handles.remove(handle, guid) {
+            self.opens.drop_handle(handle);
+        }
     }
 
     /// UninstallProtocolInterface: uninstalls the interface of a GUID with a value; a handle goes with its last
@@ -201,8 +180,8 @@ impl<A: Allocator + Copy> Protocols<A> {
         } = self.opens.usage(handle, guid);
         if is_driven {
             let plan = self.plan_to_free(drivers, handle, guid)?;
-            free(&plan, &mut self.handles, &mut self.opens, handle, guid);
-            take_out(&mut self.handles, &mut self.opens, handle, guid);
+            self.free(&plan, handle, guid);
+            self.take_out(handle, guid);
             return Ok(());
         }
         if is_kept {
@@ -220,7 +199,7 @@ impl<A: Allocator + Copy> Protocols<A> {
         ensures { self.new ≡ uninstalled_idle handle guid self.old }
     {
         drop_items(&mut self.opens, is_open, handle, guid);
-        take_out(&mut self.handles, &mut self.opens, handle, guid);
+        self.take_out(handle, guid);
     }
 
     /// ReinstallProtocolInterface: gives the interface of a GUID another value, as if it were installed
@@ -248,7 +227,12 @@ impl<A: Allocator + Copy> Protocols<A> {
         if !self.has_room() {
             return Err(Status::OutOfResources);
         }
-        match self.replace_freed(&plan, drivers, handle, guid, new_value) {
+        let replacement = Replacement {
+            handle,
+            guid,
+            value: new_value,
+        };
+        match self.replace_freed(&plan, drivers, &replacement) {
             Ok(events) => Ok(events),
             Err(_) => Err(Status::OutOfResources),
         }
@@ -260,21 +244,22 @@ impl<A: Allocator + Copy> Protocols<A> {
         &mut self,
         plan: &StopPlan<A>,
         drivers: &[D],
-        handle: u64,
-        guid: Uuid,
-        value: u64,
+        replacement: &Replacement,
     ) -> Result<Vec<u64, A>, AllocError>
-        requires plan { plan.now ≡ stop_to_free self.old handle guid }
-        requires there { carries (spec.freed handle guid self.old).handles guid handle ≡ true }
+        requires plan { plan.now
+            ≡ stop_to_free self.old replacement.now.handle replacement.now.guid }
+        requires there { CarriesInterface replacement.now
+            (spec.freed replacement.now.handle replacement.now.guid self.old) }
         requires room { HasRoom self.old }
-        ensures ok { FreesAndReplaces
-            D.meaning drivers.now self.old handle guid value result self.new }
+        ensures ok { ReplacesBy D.meaning drivers.now replacement.now
+            (spec.freed replacement.now.handle replacement.now.guid self.old) result self.new }
         ensures err { OnErr result (self.new ≡ self.old) }
         ensures raised { IsRaised self.old self.new }
     {
-        let given = self.registrations.signaled(guid)?;
-        let saved = self.saved_before(plan, handle, guid)?;
-        match self.free_and_connect(plan, drivers, handle, guid, value, given) {
+        let given = self.registrations.signaled(replacement.guid)?;
+        let saved = self.saved_before(plan, replacement.handle, replacement.guid)?;
+        self.free(plan, replacement.handle, replacement.guid);
+        match self.replace_and_connect(drivers, replacement, given) {
             Ok(events) => Ok(events),
             Err(error) => {
                 self.put_back(saved);
@@ -283,38 +268,26 @@ impl<A: Allocator + Copy> Protocols<A> {
         }
     }
 
-    /// Frees an interface, gives it another value and connects its handle with all below it. It returns
-    /// the events given, then those of the connect. On an `Err` the interface is freed, and nothing else
-    /// changes.
-    fn free_and_connect<D: Driver>(
+    /// Gives an interface another value and connects its handle with all below it. It returns the events
+    /// given, then those of the connect. On an `Err` nothing changes.
+    fn replace_and_connect<D: Driver>(
         &mut self,
-        plan: &StopPlan<A>,
         drivers: &[D],
-        handle: u64,
-        guid: Uuid,
-        value: u64,
+        replacement: &Replacement,
         given: Vec<u64, A>,
     ) -> Result<Vec<u64, A>, AllocError>
-        requires plan { plan.now ≡ stop_to_free self.old handle guid }
-        requires there { carries (spec.freed handle guid self.old).handles guid handle ≡ true }
+        requires there { CarriesInterface replacement.now self.old }
         requires room { HasRoom self.old }
-        requires given { given.items ≡ events_for self.old.registrations guid }
-        ensures ok { FreesAndReplaces
-            D.meaning drivers.now self.old handle guid value result self.new }
+        requires given { given.items ≡ events_for self.old.registrations replacement.now.guid }
+        ensures ok { ReplacesBy D.meaning drivers.now replacement.now self.old result self.new }
         ensures raised { OnOk result (IsRaised self.old self.new) }
-        ensures err { OnErr result (self.new ≡ spec.freed handle guid self.old) }
+        ensures err { OnErr result (self.new ≡ self.old) }
     {
-        free(plan, &mut self.handles, &mut self.opens, handle, guid);
-        replace_and_connect(
-            self.alloc,
-            &mut self.handles,
-            &mut self.opens,
-            &self.registrations,
+        let starter = Starter {
+            alloc: self.alloc,
             drivers,
-            handle,
-            guid,
-            value,
-            given,
-        )
+            notify: &self.registrations,
+        };
+        starter.replace_and_connect(&mut self.handles, &mut self.opens, replacement, given)
     }
 }

@@ -7,7 +7,6 @@ ghost use Rattle.driver_connect.specs.Stopping.{managers_meant, planned_stop};
 ghost use Rattle.protocol_services.specs.Removing.{drivers_on};
 
 use crate::protocols::Protocols;
-use driver_connect::{children_of, managers_to_stop, pairs_to_stop};
 use guid_handles::{Pair, is_same_guid};
 use open_agents::{Near, OpenRecord, is_for_driver};
 use std::alloc::{AllocError, Allocator};
@@ -48,7 +47,7 @@ impl<A: Allocator + Copy> Protocols<A> {
             (drivers_on self.now.opens handle guid))) }
     {
         let pairs = drivers_near(self.alloc, self.opens.near(handle), handle, guid)?;
-        pairs_to_stop(self.alloc, &self.handles, &self.opens, pairs)
+        self.lists().pairs_to_stop(pairs)
     }
 
     /// The managers to be stopped, in order, before a handle can be disconnected from the drivers that manage
@@ -59,7 +58,7 @@ impl<A: Allocator + Copy> Protocols<A> {
             (planned_stop self.now.handles self.now.opens
             (managers_meant self.now.opens handle driver))) }
     {
-        managers_to_stop(self.alloc, &self.handles, &self.opens, handle, driver)
+        self.lists().managers_to_stop(handle, driver)
     }
 
     /// The children of a pair of a controller and an agent.
@@ -68,7 +67,6 @@ impl<A: Allocator + Copy> Protocols<A> {
             (λ v. v.items ≡ children self.now.handles self.now.opens
             (record { controller = controller; agent = agent })) }
     {
-        let manager = Pair { controller, agent };
-        children_of(self.alloc, &self.handles, &self.opens, manager)
+        self.lists().children_of(Pair { controller, agent })
     }
 }

@@ -9,7 +9,7 @@ returns-in-Ok-add_request-clause-opens g c =
     let l : Lists = record { handles = c.self.inside.handles; opens = c.self.inside.opens; registrations = c.self.inside.registrations } in
     rw (← c.self.view_is)
     (opened_stopped (map g.D.Driver.meaning c.args.drivers.now) l (record { handles = c.carry_out.new.handles; opens = c.carry_out.new.opens; registrations = l.registrations }) c.in-Ok.plan c.args.manager c.args.request.now.handle c.args.request.now.guid (record { agent = c.args.request.now.agent; controller = c.args.request.now.controller })
-    c.args.request.now.attributes c.in-Ok-true.field-0 c.returned_value-value.result c.add_request.new.self c.in-Ok.ensures c.in-Ok-true.ensures c.in-Ok-true.field-0-test c.in-Ok-add_request.ensures.ok
+    c.args.request.now.attributes c.in-Ok-true.field-0 c.returned_value-value.result c.add_request.new.self (rw (c.lists.ensures.handles, c.lists.ensures.opens, ← c.self.view_is) at c.in-Ok.ensures) (rw (c.lists-2.ensures.handles, c.lists-2.ensures.opens, ← c.self.view_is) at c.in-Ok-true.ensures) c.in-Ok-true.field-0-test c.in-Ok-add_request.ensures.ok
     (rw c.carry_out.ensures.handles (rw c.carry_out.ensures.opens refl)) (rw c.interface.ensures.value at c.returned_value-value.ensures))
 
 pub returns-in-Ok-add_request-clause-raised : goal.returns-in-Ok-add_request-clause-raised

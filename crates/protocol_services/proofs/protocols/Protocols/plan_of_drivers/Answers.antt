@@ -11,4 +11,4 @@ returns g c =
     let l : Lists = record { handles = c.self.inside.handles; opens = c.self.inside.opens; registrations = c.self.inside.registrations } in
     let near : drivers_on (items_near c.near.result) c.args.handle c.args.guid ≡ drivers_on l.opens c.args.handle c.args.guid =
     ap (λ items. drivers_among (items_on items c.args.handle c.args.guid)) c.near.ensures ∙ ap drivers_among (near_ones l.opens c.args.handle c.args.guid) in
-    rw (← c.self.view_is) (rw (c.in_ok-pairs.ensures ∙ near) at c.from_vec.ensures)
+    rw (← c.self.view_is) (rw (c.lists.ensures.handles, c.lists.ensures.opens, ← c.self.view_is, c.in_ok-pairs.ensures ∙ near) at c.stop_plan_of_vec.ensures)

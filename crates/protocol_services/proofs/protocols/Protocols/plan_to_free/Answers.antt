@@ -8,8 +8,8 @@ pub returns-then-is_kept_after : goal.returns-then-is_kept_after
 returns-then-is_kept_after g c =
     let l : Lists = record { handles = c.self.inside.handles; opens = c.self.inside.opens; registrations = c.self.inside.registrations } in
     rw (← c.self.view_is) (
-      free_answer (map g.D.Driver.meaning c.args.drivers.now) l c.args.handle c.args.guid c.in-Ok.plan (items_near c.near.result) c.in-Ok-can_be_carried_out.can c.is_kept_after.result c.near.ensures
-          (rw (← c.self.view_is) at c.in-Ok.ensures) c.in-Ok-can_be_carried_out.ensures c.if-not-can.false c.is_kept_after.ensures
+      free_answer (map g.D.Driver.meaning c.args.drivers.now) l c.args.handle c.args.guid c.in-Ok.plan (items_near c.near.result) c.in-Ok-can_be_stopped.can c.is_kept_after.result c.near.ensures
+          (rw (← c.self.view_is) at c.in-Ok.ensures) (rw (c.lists.ensures.handles, c.lists.ensures.opens, ← c.self.view_is) at c.in-Ok-can_be_stopped.ensures) c.if-not-can.false c.is_kept_after.ensures
           ∙ ap not c.if-is_kept_after.true,
       refl,
     )
@@ -19,8 +19,8 @@ returns g c =
     let l : Lists = record { handles = c.self.inside.handles; opens = c.self.inside.opens; registrations = c.self.inside.registrations } in
     let planned = rw (← c.self.view_is) at c.in-Ok.ensures in
     rw (← c.self.view_is) (
-      free_answer (map g.D.Driver.meaning c.args.drivers.now) l c.args.handle c.args.guid c.in-Ok.plan (items_near c.near.result) c.in-Ok-can_be_carried_out.can c.is_kept_after.result c.near.ensures
-          planned c.in-Ok-can_be_carried_out.ensures c.if-not-can.false c.is_kept_after.ensures
+      free_answer (map g.D.Driver.meaning c.args.drivers.now) l c.args.handle c.args.guid c.in-Ok.plan (items_near c.near.result) c.in-Ok-can_be_stopped.can c.is_kept_after.result c.near.ensures
+          planned (rw (c.lists.ensures.handles, c.lists.ensures.opens, ← c.self.view_is) at c.in-Ok-can_be_stopped.ensures) c.if-not-can.false c.is_kept_after.ensures
           ∙ ap not c.if-is_kept_after.false,
       planned,
     )

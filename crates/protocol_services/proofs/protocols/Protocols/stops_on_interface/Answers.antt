@@ -12,4 +12,4 @@ returns g c =
     let near : drivers_on (items_near c.near.result) c.args.handle c.args.guid ≡ drivers_on l.opens c.args.handle c.args.guid =
     ap (λ items. drivers_among (items_on items c.args.handle c.args.guid)) c.near.ensures ∙ ap drivers_among (near_ones l.opens c.args.handle c.args.guid) in
     let drivers = c.in_ok-pairs.ensures ∙ near in
-    rw (← c.self.view_is) (rw drivers at c.pairs_to_stop.ensures)
+    rw (← c.self.view_is) (rw (c.lists.ensures.handles, c.lists.ensures.opens, ← c.self.view_is, drivers) at c.pairs_to_stop.ensures)

@@ -1,38 +1,29 @@
-use Rattle.std.proofs.Common.{◌≡◌, [], true, false, map, None, refl, sym, ◌∙◌}
+use Rattle.std.proofs.Common.{◌≡◌, true, false, map, None, sym, ap, ◌∙◌}
 use Rattle.protocol_services.specs.Lists.{Lists}
-use Rattle.protocol_services.specs.Removing.{removal_refusal}
+use Rattle.protocol_services.specs.Removing.{removal_refusal, uninstalled}
 use Rattle.protocol_services.proofs.Raised.{stays_raised}
-use Rattle.protocol_services.proofs.Unopened.{in_place_raised, kept_in_place, uninstalled_once_freed, uninstalled_in_place}
+use Rattle.protocol_services.proofs.Unopened.{in_place_raised, kept_in_place, uninstalled_in_place}
 use Rattle.protocol_services.proofs.FreeToGo.{free_parts}
-use Rattle.protocol_services.proofs.Freed.{draft_carries, free_leaves, none_left, served_carries, uninstalled_raised}
+use Rattle.protocol_services.proofs.Freed.{carried_freed, none_left, not_refused, served_carries, uninstalled_raised}
 use Rattle.protocol_services.proofs.protocols.Protocols.uninstall.Goals as goal
+
+pub free-requires : goal.free-requires
+free-requires g c = c.in_ok-plan.ensures.1
 
 pub take_out-requires : goal.take_out-requires
 take_out-requires g c =
-    let l : Lists = record { handles = c.self.inside.handles; opens = c.self.inside.opens; registrations = c.self.inside.registrations } in
-    let none : removal_refusal l.handles c.args.handle c.args.guid c.args.value ≡ None = sym c.removal_refusal.ensures ∙ none_left c.removal_refusal.result c.in_default.not-Some in
-    let left : Lists = record { handles = c.free.new.handles; opens = c.free.new.opens; registrations = [] } in
-    draft_carries (map g.D.Driver.meaning c.args.drivers.now) l left c.args.handle c.args.guid c.args.value none (rw (← c.self.view_is) at c.in_ok-plan.ensures.0)
-    (free_leaves l c.args.handle c.args.guid c.in_ok-plan.plan c.free.new.handles c.free.new.opens (rw (← c.self.view_is) at c.in_ok-plan.ensures.1) c.free.ensures.handles c.free.ensures.opens)
+    rw c.free.ensures
+    (carried_freed (map g.D.Driver.meaning c.args.drivers.now) c.args.self.now c.args.handle c.args.guid c.in_ok-plan.ensures.0
+    (served_carries c.args.self.now.handles c.args.handle c.args.guid c.args.value
+    (not_refused c.args.self.now _ c.args.handle c.args.guid c.args.value c.removal_refusal.result c.self.view_is c.removal_refusal.ensures c.in_default.not-Some)))
 
 pub returns-then-is_driven-clause-uninstalls : goal.returns-then-is_driven-clause-uninstalls
 returns-then-is_driven-clause-uninstalls g c =
-    let l : Lists = record { handles = c.self.inside.handles; opens = c.self.inside.opens; registrations = c.self.inside.registrations } in
-    let none : removal_refusal l.handles c.args.handle c.args.guid c.args.value ≡ None = sym c.removal_refusal.ensures ∙ none_left c.removal_refusal.result c.in_default.not-Some in
-    let free : Lists = record { handles = c.free.new.handles; opens = c.free.new.opens; registrations = [] } in
-    let left : Lists = record { handles = c.take_out.new.handles; opens = c.take_out.new.opens; registrations = [] } in
-    rw (← c.self.view_is)
-    (uninstalled_once_freed (map g.D.Driver.meaning c.args.drivers.now) l free left (record left { registrations = l.registrations }) c.args.handle c.args.guid c.args.value none (rw (← c.self.view_is) at c.in_ok-plan.ensures.0)
-    (free_leaves l c.args.handle c.args.guid c.in_ok-plan.plan c.free.new.handles c.free.new.opens (rw (← c.self.view_is) at c.in_ok-plan.ensures.1) c.free.ensures.handles c.free.ensures.opens) c.take_out.ensures refl)
+    rw (not_refused c.args.self.now _ c.args.handle c.args.guid c.args.value c.removal_refusal.result c.self.view_is c.removal_refusal.ensures c.in_default.not-Some)
+    (c.in_ok-plan.ensures.0, c.take_out.ensures ∙ ap (uninstalled c.args.handle c.args.guid) c.free.ensures)
 
 pub returns-then-is_driven-clause-raised : goal.returns-then-is_driven-clause-raised
-returns-then-is_driven-clause-raised g c =
-    let l : Lists = record { handles = c.self.inside.handles; opens = c.self.inside.opens; registrations = c.self.inside.registrations } in
-    let free : Lists = record { handles = c.free.new.handles; opens = c.free.new.opens; registrations = [] } in
-    let left : Lists = record { handles = c.take_out.new.handles; opens = c.take_out.new.opens; registrations = [] } in
-    rw (← c.self.view_is)
-    (uninstalled_raised l free left (record left { registrations = l.registrations }) c.args.handle c.args.guid
-    (free_leaves l c.args.handle c.args.guid c.in_ok-plan.plan c.free.new.handles c.free.new.opens (rw (← c.self.view_is) at c.in_ok-plan.ensures.1) c.free.ensures.handles c.free.ensures.opens) c.take_out.ensures refl)
+returns-then-is_driven-clause-raised g c = rw c.take_out.ensures (uninstalled_raised c.args.self.now c.free.new.self c.args.handle c.args.guid c.free.ensures)
 
 pub returns-in_err-plan-clause-raised : goal.returns-in_err-plan-clause-raised
 returns-in_err-plan-clause-raised g c = stays_raised c.args.self.now

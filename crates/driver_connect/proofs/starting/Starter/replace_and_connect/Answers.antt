@@ -1,10 +1,10 @@
 use Rattle.std.proofs.Common.{◌≡◌, None, is_some, false, true, sym, ap, ◌∙◌, arith}
 use Rattle.guid_handles.specs.HandleTables.{interface_at}
-use Rattle.driver_connect.proofs.reconnecting.replace_and_connect.Goals as goal
+use Rattle.driver_connect.proofs.starting.Starter.replace_and_connect.Goals as goal
 
 pub unreachable-requires : goal.unreachable-requires
 unreachable-requires g c =
-    let e : None ≡ interface_at c.args.handles.now c.args.handle c.args.guid = sym c.in_default.is ∙ c.installed.ensures.interface in
+    let e : None ≡ interface_at c.args.handles.now c.args.replacement.now.handle c.args.replacement.now.guid = sym c.in_default.is ∙ c.installed.ensures.interface in
     let k : false ≡ true = ap is_some e ∙ c.requires.there in
     cc
 
@@ -30,7 +30,7 @@ restore-requires g c = (
     table = c.in-Some.ensures.table;
     there = sym c.in-Some.ensures.interface;
     last = sym c.last_stamp-last_stamp.ensures.stamp;
-    value = c.args.value;
+    value = c.args.replacement.now.value;
     replaced = c.in-Err.ensures.err.0 ∙ c.replace.ensures;
   },
 )
@@ -41,7 +41,7 @@ returns-in-Err-clause-err g c = (
     table = c.in-Some.ensures.table;
     there = sym c.in-Some.ensures.interface;
     last = sym c.last_stamp-last_stamp.ensures.stamp;
-    value = c.args.value;
+    value = c.args.replacement.now.value;
     replaced = c.in-Err.ensures.err.0 ∙ c.replace.ensures;
   }),
   c.in-Err.ensures.err.1,
