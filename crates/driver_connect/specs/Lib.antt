@@ -11,3 +11,4 @@ pub mod DriverTurns
 pub mod StopOrder
 pub mod GoingOn
 pub mod Pending
+pub mod Reconnecting

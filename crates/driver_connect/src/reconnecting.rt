@@ -1,7 +1,7 @@
 //! Putting another value in place of an interface's, and connecting its handle.
 ghost use Rattle.std.specs.Prelude.{◌≡◌, ◌+◌, ◌<◌, ◌≤◌, ◌^◌, true, IfOk, OnErr};
 ghost use Rattle.guid_handles.specs.HandleTables.{carries};
-ghost use Rattle.driver_connect.specs.Connecting.{Reconnects};
+ghost use Rattle.driver_connect.specs.Reconnecting.{ReconnectsBy};
 
 use crate::driver::Driver;
 use crate::starting::Starter;
@@ -32,9 +32,8 @@ impl<'a, D: Driver, A: Allocator + Copy> Starter<'a, D, A> {
         requires there { carries handles.old replacement.now.guid replacement.now.handle ≡ true }
         requires numbers { handles.old.last_number < 2 ^ 61 }
         requires stamps { handles.old.last_stamp + 1 < 2 ^ 61 }
-        ensures ok { IfOk result (λ e. Reconnects D.meaning self.now.drivers.now
-            self.now.notify.now replacement.now.handle replacement.now.guid
-            replacement.now.value handles.old opens.old given.items e.items handles.new opens.new) }
+        ensures ok { IfOk result (λ e. ReconnectsBy D.meaning self.now replacement.now
+            handles.old opens.old given.items e.items handles.new opens.new) }
         ensures err { OnErr result ((handles.new ≡ handles.old) × (opens.new ≡ opens.old)) }
         ensures numbers { handles.new.last_number ≤ handles.old.last_number + 4096 }
         ensures stamps { handles.new.last_stamp ≤ handles.old.last_stamp + 16385 }
