@@ -16,6 +16,7 @@ use descriptor_table::{MapEntries, RunTable};
 use device_path_locate::{has_path_installed, locate, locate_bytes};
 use driver_connect::Driver;
 use map_keys::{MapReply, get_memory_map};
+use open_agents::OpenRequest;
 use page_ranges::{Descriptor, Status};
 use page_services::{PageBook, Placed};
 use placement_certificate::Certificate;
@@ -487,11 +488,13 @@ impl<D: Driver, A: Allocator + Copy> Core<D, A> {
         Reply::OpenProtocol(match self.begin() {
             Ok(()) => self.protocols.open(
                 self.drivers.as_slice(),
-                handle,
-                guid,
-                agent,
-                controller,
-                attributes,
+                &OpenRequest {
+                    handle,
+                    guid,
+                    agent,
+                    controller,
+                    attributes,
+                },
             ),
             Err(status) => Err(status),
         })

@@ -8,7 +8,7 @@ use Rattle.open_agents.specs.declared.items.OpenRequest.{OpenRequest}
 use Rattle.open_agents.specs.OpenRequests.{is_among}
 use Rattle.driver_connect.specs.Drivers.{Meaning}
 use Rattle.protocol_services.specs.Lists.{Lists}
-use Rattle.protocol_services.specs.Opening.{OpensAs}
+use Rattle.protocol_services.specs.Opening.{OpensAs, OpensProtocol}
 
 -- what a call returns for which this was decided, and the lists after it
 abbrev pub OpensBy : List Meaning → Decision → Lists → OpenRequest → Result (Option ℕ) Status
@@ -30,3 +30,9 @@ OpensAfterStop ds manager l r result new = OpensBy ds (StopFirst manager) l r re
 -- after it.
 abbrev pub OpensAgain : Lists → OpenRequest → Result (Option ℕ) Status → Lists → Type 0
 OpensAgain l r result new = is_among l.opens r ≡ true → OpensBy [] Count l r result new
+
+-- What an open returns, and the lists after it.
+abbrev pub OpensRequest : List Meaning → Lists → OpenRequest → Result (Option ℕ) Status → Lists
+    → Type 0
+OpensRequest ds l r result new =
+    OpensProtocol ds l r.handle r.guid r.agent r.controller r.attributes result new

@@ -3,8 +3,8 @@ ghost use Rattle.std.specs.Prelude.{◌≡◌, ◌==◌, true, false, cond, is_s
 ghost use Rattle.guid_handles.specs.HandleTables.{carries, value_at};
 ghost use Rattle.protocol_services.specs.Lists.{IsRaised};
 ghost use Rattle.open_agents.specs.OpenRequests.{decision_on, is_among};
-ghost use Rattle.protocol_services.specs.Opening.{Closes, HandlesProtocol, OpensProtocol, ReturnsItems, names_none, test_protocol};
-ghost use Rattle.protocol_services.specs.OpeningSteps.{OpensAfterStop, OpensAgain, OpensAnew};
+ghost use Rattle.protocol_services.specs.Opening.{Closes, HandlesProtocol, ReturnsItems, names_none, test_protocol};
+ghost use Rattle.protocol_services.specs.OpeningSteps.{OpensAfterStop, OpensAgain, OpensAnew, OpensRequest};
 
 use crate::protocols::Protocols;
 use driver_connect::Driver;
@@ -24,30 +24,18 @@ impl<A: Allocator + Copy> Protocols<A> {
     pub fn open<D: Driver>(
         &mut self,
         drivers: &[D],
-        handle: u64,
-        guid: Uuid,
-        agent: u64,
-        controller: u64,
-        attributes: u32,
+        request: &OpenRequest,
     ) -> Result<Option<u64>, Status>
-        ensures opens { OpensProtocol
-            (map D.meaning drivers.now) self.old handle guid agent controller attributes result
-            self.new }
+        ensures opens { OpensRequest
+            (map D.meaning drivers.now) self.old request.now result self.new }
         ensures raised { IsRaised self.old self.new }
     {
-        let request = OpenRequest {
-            handle,
-            guid,
-            agent,
-            controller,
-            attributes,
-        };
-        let value = self.handles.interface(handle, guid);
-        match self.decide(value, &request) {
+        let value = self.handles.interface(request.handle, request.guid);
+        match self.decide(value, request) {
             Decision::Refuse(status) => Err(status),
-            Decision::StopFirst(manager) => self.open_after_stop(drivers, manager, &request),
-            Decision::Count => self.count_open(value, &request),
-            Decision::Add => self.add_open(value, &request),
+            Decision::StopFirst(manager) => self.open_after_stop(drivers, manager, request),
+            Decision::Count => self.count_open(value, request),
+            Decision::Add => self.add_open(value, request),
         }
     }
 

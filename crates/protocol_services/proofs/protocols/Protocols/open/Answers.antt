@@ -31,14 +31,14 @@ pub returns-in-Add-clause-raised : goal.returns-in-Add-clause-raised
 returns-in-Add-clause-raised g c = c.add_open.ensures.raised
 
 pub add_open-requires-clause-new : goal.add_open-requires-clause-new
-add_open-requires-clause-new g c = none_added c.args.self.now.handles c.args.self.now.opens c.args.handle c.args.guid c.args.agent c.args.controller c.args.attributes (sym c.decide.ensures ∙ c.in-Add.is)
+add_open-requires-clause-new g c = none_added c.args.self.now.handles c.args.self.now.opens c.args.request.now.handle c.args.request.now.guid c.args.request.now.agent c.args.request.now.controller c.args.request.now.attributes (sym c.decide.ensures ∙ c.in-Add.is)
 
 pub returns-in-Count-clause-opens : goal.returns-in-Count-clause-opens
 returns-in-Count-clause-opens g c =
     let counted = sym c.decide.ensures ∙ c.in-Count.is in
-    let equal = equal_counted c.args.self.now.handles c.args.self.now.opens c.args.handle c.args.guid c.args.agent c.args.controller c.args.attributes counted in
-    rw counted (counted_by_any (map g.D.Driver.meaning c.args.drivers.now) c.args.self.now c.args.handle c.args.guid c.args.agent c.args.controller c.args.attributes c.count_open.result c.count_open.new.self (c.count_open.ensures.counts equal))
+    let equal = equal_counted c.args.self.now.handles c.args.self.now.opens c.args.request.now.handle c.args.request.now.guid c.args.request.now.agent c.args.request.now.controller c.args.request.now.attributes counted in
+    rw counted (counted_by_any (map g.D.Driver.meaning c.args.drivers.now) c.args.self.now c.args.request.now.handle c.args.request.now.guid c.args.request.now.agent c.args.request.now.controller c.args.request.now.attributes c.count_open.result c.count_open.new.self (c.count_open.ensures.counts equal))
 
 pub returns-in-Add-clause-opens : goal.returns-in-Add-clause-opens
 returns-in-Add-clause-opens g c =
-    rw (sym c.decide.ensures ∙ c.in-Add.is) (added_by_any (map g.D.Driver.meaning c.args.drivers.now) c.args.self.now c.args.handle c.args.guid c.args.agent c.args.controller c.args.attributes c.add_open.result c.add_open.new.self c.add_open.ensures.adds)
+    rw (sym c.decide.ensures ∙ c.in-Add.is) (added_by_any (map g.D.Driver.meaning c.args.drivers.now) c.args.self.now c.args.request.now.handle c.args.request.now.guid c.args.request.now.agent c.args.request.now.controller c.args.request.now.attributes c.add_open.result c.add_open.new.self c.add_open.ensures.adds)
