@@ -25,7 +25,7 @@ find_lives n (r ∷ rs) = elim (cases_Bool (is_row_of n r)) [
 abbrev with_keys_on : ℕ → (List ℕ → List ℕ) → Row → Row
 with_keys_on n f r = record r { keys = cond (is_row_of n r) (f r.keys) r.keys }
 
--- rows of which those of one handle have other keys
+-- the rows, with the keys of one handle changed
 abbrev pub rows_with : ℕ → (List ℕ → List ℕ) → List Row → List Row
 rows_with n f rows = map (with_keys_on n f) rows
 
