@@ -334,6 +334,10 @@ RAFKUDIN_API void RafkudinFree(struct rafkudin *core);
  * pages. The places are the same either way. */
 RAFKUDIN_API void RafkudinCertify(struct rafkudin *core, bool certify);
 
+/* Whether the core keeps the reply of each service from now on, for RafkudinReplyLine. A new core
+ * keeps none: to keep one takes a call some time, and what it returns is the same either way. */
+RAFKUDIN_API void RafkudinRecord(struct rafkudin *core, bool record);
+
 /* The certificate of the last service that was called, as the text of a certificate block
  * (docs/FORMATS.md), without a zero byte at its end. There is one where that call succeeded while
  * certificates were kept, and it was AllocatePages of the type RAFKUDIN_ANY_PAGES or
@@ -348,13 +352,14 @@ RAFKUDIN_API rafkudin_uint64 RafkudinCertificate(const struct rafkudin *core, ui
 
 /* What the program `bootcore` prints of the last service that was called, byte for byte, without a
  * zero byte at its end: the lines of its reply under the number of its line in a trace
- * (docs/FORMATS.md) and, while certificates are kept, its certificate as with `--certify`. `text`
- * has room for `room` bytes; the text is written where all of it fits. A host that writes a line
- * for each call thus knows what the program must print.
+ * (docs/FORMATS.md) and, while certificates are kept, its certificate as with `--certify`. There is
+ * a reply where the service was called while replies were kept (RafkudinRecord). `text` has room
+ * for `room` bytes; the text is written where all of it fits. A host that writes a line for each
+ * call thus knows what the program must print.
  *
  * SUCCESS: *length are the bytes written. BUFFER_TOO_SMALL: *length are the bytes needed, and none
- * is written. NOT_FOUND: no service was called yet, or the last call left no reply. None is left by
- * GetMemoryMap and PoolRead, whose replies are in the caller's buffers, by
+ * is written. NOT_FOUND: no service was called yet, or the last call left no reply. None is left
+ * while replies are not kept, by GetMemoryMap and PoolRead, whose replies are in the caller's buffers, by
  * UninstallMultipleProtocolInterfaces and RafkudinLocatePath, which are in no trace, by
  * RafkudinInstallPath of bytes that begin with no path, and by a call that returns ABORTED.
  * OUT_OF_RESOURCES: memory was refused.
@@ -367,7 +372,7 @@ RAFKUDIN_API rafkudin_uint64 RafkudinReplyLine(const struct rafkudin *core, rafk
                                                rafkudin_uint64 *length);
 
 /* How many events the last service that was called signals, and the first `room` of them in
- * `events`, in their order. Only InstallProtocolInterface, InstallMultipleProtocolInterfaces,
+ * `events`, in their order, whether replies are kept or not. Only InstallProtocolInterface, InstallMultipleProtocolInterfaces,
  * ReinstallProtocolInterface and ConnectController signal any, on SUCCESS: the events registered
  * for the GUIDs that they install. An event may be there more than once. */
 RAFKUDIN_API size_t RafkudinEvents(const struct rafkudin *core, rafkudin_uint64 *events,

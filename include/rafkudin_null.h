@@ -735,6 +735,13 @@ static inline void rafkudin_certify(struct rafkudin *core, bool certify)
 }
 #define RafkudinCertify rafkudin_certify
 
+static inline void rafkudin_record(struct rafkudin *core, bool record)
+{
+    if (core != NULL)
+        RafkudinRecord(core, record);
+}
+#define RafkudinRecord rafkudin_record
+
 static inline size_t rafkudin_descriptors(const struct rafkudin *core)
 {
     return core == NULL ? 0 : RafkudinDescriptors(core);

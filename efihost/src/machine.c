@@ -163,6 +163,7 @@ static void make_core(void)
     if (status != RAFKUDIN_SUCCESS)
         refuse("machine: the core refuses it: %s", status_text(status));
     RafkudinCertify(host.core, host.options.certify);
+    RafkudinRecord(host.core, host.options.trace != NULL);
     if (host.options.trace != NULL)
         open_trace(host.options.trace, (const uint8_t *)records, range_count, granule);
     free(records);

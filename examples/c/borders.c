@@ -426,6 +426,49 @@ static void try_certificates(struct rafkudin *core)
     HOLDS(RafkudinCertificate(core, text, sizeof text, &length) == RAFKUDIN_NOT_FOUND);
 }
 
+/* What calls with replies leave, each of which is served with replies kept or without them. */
+static void call_each(struct rafkudin *core, bool records, uint64_t *handle)
+{
+    static const struct rafkudin_guid guid = {{0x51}};
+    uint64_t address = 0, value = 0, key = 0, length = 0, events[1] = {0};
+    uint8_t text[256];
+    const uint64_t left = records ? RAFKUDIN_SUCCESS : RAFKUDIN_NOT_FOUND;
+
+    RafkudinRecord(core, records);
+#define LEAVES(call)                                                                              \
+    HOLDS((call) == RAFKUDIN_SUCCESS);                                                            \
+    HOLDS(RafkudinReplyLine(core, 1, text, sizeof text, &length) == left)
+    LEAVES(RafkudinAllocatePages(core, 0, 4, 1, &address));
+    HOLDS(address != 0 && RafkudinEvents(core, events, 1) == 0);
+    LEAVES(RafkudinFreePages(core, address, 1));
+    LEAVES(RafkudinAllocatePool(core, 4, 24, &address));
+    LEAVES(RafkudinPoolWrite(core, address, text, 8));
+    LEAVES(RafkudinFreePool(core, address));
+    LEAVES(RafkudinRegisterProtocolNotify(core, &guid, 3, &key));
+    LEAVES(RafkudinInstallProtocolInterface(core, handle, &guid, 0, 5));
+    HOLDS(RafkudinEvents(core, events, 1) > 0 && events[0] == 3);
+    LEAVES(RafkudinHandleProtocol(core, *handle, &guid, &value));
+    HOLDS(value == 5 && RafkudinEvents(core, events, 1) == 0);
+    LEAVES(RafkudinLocateProtocol(core, &guid, 0, &value));
+    LEAVES(RafkudinOpenProtocol(core, *handle, &guid, &value, *handle, 0, 1));
+    LEAVES(RafkudinCloseProtocol(core, *handle, &guid, *handle, 0));
+    LEAVES(RafkudinUninstallProtocolInterface(core, *handle, &guid, 5));
+    HOLDS(RafkudinHandleProtocol(core, *handle, &guid, &value) == RAFKUDIN_INVALID_PARAMETER);
+    HOLDS(RafkudinReplyLine(core, 1, text, sizeof text, &length) == left);
+#undef LEAVES
+}
+
+/* A reply is left where replies are kept, and events are left in any case. */
+static void try_records(struct rafkudin *core)
+{
+    uint64_t first = 0, second = 0;
+
+    call_each(core, false, &first);
+    call_each(core, true, &second);
+    RafkudinRecord(core, false);
+    HOLDS(second > first);
+}
+
 /* The end: what is refused then, and what is not. */
 static void try_exit(struct rafkudin *core)
 {
@@ -489,6 +532,7 @@ int main(void)
     try_uninstalls();
     try_pool(core);
     try_certificates(core);
+    try_records(core);
     try_exit(core);
     RafkudinFree(core);
     try_threads();

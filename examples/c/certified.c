@@ -91,6 +91,7 @@ static struct pair *pair_of(const struct machine *machine)
     for (size_t at = 0; at < CORES; at++) {
         pair->cores[at] = machine_core(machine);
         RafkudinCertify(pair->cores[at], at == 0);
+        RafkudinRecord(pair->cores[at], true);
     }
     return pair;
 }

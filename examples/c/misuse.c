@@ -60,6 +60,7 @@ static void try_no_core(void)
     HOLDS(RafkudinEvents(NULL, &number, 1) == 0);
     HOLDS(RafkudinDescriptors(NULL) == 0 && RafkudinRuns(NULL) == 0 && RafkudinCallsLeft(NULL) == 0);
     RafkudinCertify(NULL, true);
+    RafkudinRecord(NULL, true);
 }
 
 /* Each null pointer of the questions. */

@@ -90,6 +90,7 @@ static void run_files(const char *machine_path, const char *trace_path, const ch
     fclose(machine_file);
     machine_free(&machine);
     RafkudinCertify(run.core, certify);
+    RafkudinRecord(run.core, true);
     if (saved_path != NULL) {
         saved = fopen(saved_path, "wb");
         if (saved == NULL)

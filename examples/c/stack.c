@@ -70,6 +70,7 @@ static void make(void)
         RAFKUDIN_SUCCESS)
         abort();
     RafkudinCertify(core, true);
+    RafkudinRecord(core, true);
 }
 
 static void place(void)

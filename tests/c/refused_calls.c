@@ -94,6 +94,7 @@ static struct rafkudin *make_core(bool has_driver, bool certifies)
                      has_driver, &core) != RAFKUDIN_SUCCESS)
         fail("no core");
     RafkudinCertify(core, certifies);
+    RafkudinRecord(core, true);
     return core;
 }
 

@@ -2,7 +2,7 @@
 ghost use Rattle.std.specs.Prelude.{◌≡◌, IfOk, option_map};
 ghost use Rattle.boot_core.specs.Machines.{kept_map, map_of};
 
-use crate::core_state::Core;
+use crate::services::Services;
 use boot_calls::Call;
 use boot_replies::may_be_certified;
 use driver_connect::Driver;
@@ -12,15 +12,15 @@ use std::alloc::{AllocError, Allocator};
 /// The memory map before a call, where certificates are asked for and the call's reply may carry one.
 pub fn map_before<D: Driver, A: Allocator + Copy>(
     alloc: A,
-    core: &Core<D, A>,
+    services: &Services<D, A>,
     call: &Call<A>,
     certify: bool,
 ) -> Result<Option<Vec<Descriptor, A>>, AllocError>
     ensures { IfOk result (λ kept. option_map (λ entries. entries.items) kept
-        ≡ kept_map certify core.now.state call.now) }
+        ≡ kept_map certify services.now.state call.now) }
 {
-    if certify && may_be_certified(core.granule(), call) {
-        Ok(Some(entries_of(alloc, core)?))
+    if certify && may_be_certified(services.granule(), call) {
+        Ok(Some(entries_of(alloc, services)?))
     } else {
         Ok(None)
     }
@@ -29,12 +29,12 @@ pub fn map_before<D: Driver, A: Allocator + Copy>(
 /// The entries of the memory map.
 fn entries_of<D: Driver, A: Allocator + Copy>(
     alloc: A,
-    core: &Core<D, A>,
+    services: &Services<D, A>,
 ) -> Result<Vec<Descriptor, A>, AllocError>
-    ensures { IfOk result (λ entries. entries.items ≡ map_of core.now.state) }
+    ensures { IfOk result (λ entries. entries.items ≡ map_of services.now.state) }
 {
     let mut entries = Vec::new(alloc);
-    for entry in core.map_entries() {
+    for entry in services.map_entries() {
         entries.push(entry)?;
     }
     Ok(entries)

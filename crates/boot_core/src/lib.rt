@@ -9,12 +9,13 @@ mod pool_buffers;
 mod pool_lists;
 mod questions;
 mod removals;
+mod services;
 mod turns;
 
 pub use boot_calls::{Call, CallBytes, CallHandles, CallPairs};
 pub use boot_machines::Machine;
 pub use boot_replies::{PoolList, Reply, certified, may_be_certified};
-pub use core_state::{Core, PREPARED_PLACEMENTS};
+pub use core_state::Core;
 pub use driver_connect::{Agent, DriverTurns};
 pub use guid_handles::{Interface, Pair};
 pub use kept_maps::map_before;
@@ -26,3 +27,4 @@ pub use laws::{
 };
 pub use open_agents::{OpenItem, OpenRecord};
 pub use pool_services::{PoolBlock, PoolMemory};
+pub use services::{PREPARED_PLACEMENTS, Services};

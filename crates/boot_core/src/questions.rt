@@ -9,7 +9,7 @@ ghost use Rattle.open_agents.specs.Listed.{items_of};
 ghost use Rattle.open_agents.specs.OpenItems.{items_on};
 ghost use Rattle.boot_core.specs.Questions.{WritesItems};
 
-use crate::core_state::Core;
+use crate::services::Services;
 use driver_connect::Driver;
 use guid_handles::Interface;
 use open_agents::{OpenItem, OpenRecord};
@@ -18,7 +18,7 @@ use pool_services::PoolBlock;
 use std::alloc::Allocator;
 use uuid::Uuid;
 
-impl<D: Driver, A: Allocator + Copy> Core<D, A> {
+impl<D: Driver, A: Allocator + Copy> Services<D, A> {
     /// How many runs of pages there are, of one type, one set of attributes and one owner each.
     pub fn page_runs(&self) -> usize
         ensures count { result ≡ length (runs_of self.now.state.parts.book.memory) }

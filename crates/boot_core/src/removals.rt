@@ -2,13 +2,13 @@
 ghost use Rattle.std.specs.Prelude.{◌≡◌, ◌<◌, map};
 ghost use Rattle.boot_core.specs.Removals.{UninstallStep};
 
-use crate::core_state::Core;
+use crate::services::Services;
 use driver_connect::Driver;
 use page_ranges::Status;
 use std::alloc::Allocator;
 use uuid::Uuid;
 
-impl<D: Driver, A: Allocator + Copy> Core<D, A> {
+impl<D: Driver, A: Allocator + Copy> Services<D, A> {
     /// UninstallMultipleProtocolInterfaces: uninstalls interfaces of a handle, pairs of GUID and value, one after the
     /// other: all of them, or none.
     ///

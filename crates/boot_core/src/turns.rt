@@ -3,14 +3,14 @@ ghost use Rattle.std.specs.Prelude.{◌≡◌, length, IfOk};
 ghost use Rattle.driver_connect.specs.DriverTurns.{BeginsTurns};
 ghost use Rattle.boot_core.specs.Stops.{stops_on_interface, stops_on_controller, children};
 
-use crate::core_state::Core;
+use crate::services::Services;
 use driver_connect::{Agent, Driver, DriverTurns};
 use guid_handles::Pair;
 use page_ranges::Status;
 use std::alloc::{AllocError, Allocator};
 use uuid::Uuid;
 
-impl<D: Driver, A: Allocator + Copy> Core<D, A> {
+impl<D: Driver, A: Allocator + Copy> Services<D, A> {
     /// Begins the turns on a controller of the drivers on a list that are on live driver handles: those of
     /// the handles named, and then all others by version. The list is put in that order.
     ///

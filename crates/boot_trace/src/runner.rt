@@ -4,7 +4,7 @@ ghost use Rattle.trace_lines.specs.TraceLine.{line_of};
 ghost use Rattle.boot_trace.specs.TraceRuns.{CoreEnds, CorePrints, CoreStopsAt, asking};
 
 use crate::listings::print_list;
-use boot_core::{Call, Core, map_before};
+use boot_core::{Call, Core, Services, map_before};
 use driver_connect::Driver;
 use reply_texts::print_call;
 use std::alloc::Allocator;
@@ -28,6 +28,21 @@ pub fn run<D: Driver, A: Allocator + Copy, R: Read + Drop, W: Write>(
         (W.contents writer.old) (W.contents writer.new) result }
     ensures given { core.new.given ≡ core.old.given }
 {
+    run_services(alloc, &mut core.services, reader, writer, certify)
+}
+
+/// The same, of the core's services.
+fn run_services<D: Driver, A: Allocator + Copy, R: Read + Drop, W: Write>(
+    alloc: A,
+    services: &mut Services<D, A>,
+    reader: R,
+    writer: &mut W,
+    certify: bool,
+) -> Result<(), RunFault>
+    ensures ends { CoreEnds A D.meaning certify (R.remaining reader) services.old services.new
+        (W.contents writer.old) (W.contents writer.new) result }
+    ensures given { services.new.given ≡ services.old.given }
+{
     let Ok(mut reader) = BufReader::new(alloc, reader) else {
         return Err(RunFault::OutOfMemory);
     };
@@ -41,7 +56,14 @@ pub fn run<D: Driver, A: Allocator + Copy, R: Read + Drop, W: Write>(
             Err(LineFault::OutOfMemory) => return Err(RunFault::OutOfMemory),
         }
         text.clear();
-        match run_line(alloc, core, done + 1, line.as_slice(), certify, &mut text) {
+        match run_line(
+            alloc,
+            services,
+            done + 1,
+            line.as_slice(),
+            certify,
+            &mut text,
+        ) {
             Ok(()) => {}
             Err(fault) => return Err(fault),
         }
@@ -60,7 +82,7 @@ pub fn run<D: Driver, A: Allocator + Copy, R: Read + Drop, W: Write>(
 /// Makes the call that a line asks for, if it asks for one, and appends what is printed of it.
 pub fn run_line<D: Driver, A: Allocator + Copy>(
     alloc: A,
-    core: &mut Core<D, A>,
+    services: &mut Services<D, A>,
     number: u64,
     line: &[u8],
     certify: bool,
@@ -68,19 +90,21 @@ pub fn run_line<D: Driver, A: Allocator + Copy>(
 ) -> Result<(), RunFault>
     requires { string_bytes text.old ≡ [] }
     ensures ok { OnOk result
-        (CorePrints A D.meaning certify number (line_of line.now) core.old
-        (string_bytes text.new) core.new) }
-    ensures given { core.new.given ≡ core.old.given }
+        (CorePrints A D.meaning certify number (line_of line.now) services.old
+        (string_bytes text.new) services.new) }
+    ensures given { services.new.given ≡ services.old.given }
     ensures err { IfErr result (λ fault.
-        CoreStopsAt A D.meaning certify fault number (line_of line.now) core.old core.new) }
+        CoreStopsAt A D.meaning certify fault number (line_of line.now) services.old services.new) }
 {
     match read_call(alloc, line) {
         Ok(None) => Ok(()),
-        Ok(Some(TraceCall::List)) => match print_list(text, number, core) {
+        Ok(Some(TraceCall::List)) => match print_list(text, number, services) {
             Ok(()) => Ok(()),
             Err(_) => Err(RunFault::OutOfMemory),
         },
-        Ok(Some(TraceCall::Service(call))) => make_call(alloc, core, number, &call, certify, text),
+        Ok(Some(TraceCall::Service(call))) => make_call(
+            alloc, services, number, &call, certify, text,
+        ),
         Err(TraceFault::OutOfMemory) => Err(RunFault::OutOfMemory),
         Err(fault) => Err(RunFault::Line { number, fault }),
     }
@@ -89,7 +113,7 @@ pub fn run_line<D: Driver, A: Allocator + Copy>(
 /// Makes a call, and appends what is printed of it.
 fn make_call<D: Driver, A: Allocator + Copy>(
     alloc: A,
-    core: &mut Core<D, A>,
+    services: &mut Services<D, A>,
     number: u64,
     call: &Call<A>,
     certify: bool,
@@ -97,20 +121,20 @@ fn make_call<D: Driver, A: Allocator + Copy>(
 ) -> Result<(), RunFault>
     requires { string_bytes text.old ≡ [] }
     ensures ok { OnOk result
-        (CorePrints A D.meaning certify number (asking call.now) core.old
-        (string_bytes text.new) core.new) }
-    ensures given { core.new.given ≡ core.old.given }
+        (CorePrints A D.meaning certify number (asking call.now) services.old
+        (string_bytes text.new) services.new) }
+    ensures given { services.new.given ≡ services.old.given }
     ensures err { IfErr result (λ fault.
-        CoreStopsAt A D.meaning certify fault number (asking call.now) core.old core.new) }
+        CoreStopsAt A D.meaning certify fault number (asking call.now) services.old services.new) }
 {
-    if core.calls_left() == 0 {
+    if services.calls_left() == 0 {
         return Err(RunFault::NoCallsLeft);
     }
-    let granule = core.granule();
-    let Ok(before) = map_before(alloc, core, call, certify) else {
+    let granule = services.granule();
+    let Ok(before) = map_before(alloc, services, call, certify) else {
         return Err(RunFault::OutOfMemory);
     };
-    let reply = core.call(call);
+    let reply = services.call(call);
     match print_call(alloc, text, number, granule, &before, call, &reply) {
         Ok(()) => Ok(()),
         Err(_) => Err(RunFault::OutOfMemory),

@@ -1,5 +1,5 @@
--- A call of the core whose reply is left to be asked for.
-use Rattle.std.proofs.Common.{◌≡◌, ◌∙◌, refl, ap}
+-- A call of the core, and what is left of it to be asked for.
+use Rattle.std.proofs.Common.{◌≡◌, ◌∙◌, Bool, false, [], refl, ap}
 use Rattle.boot_calls.specs.declared.calls.Call.{Call}
 use Rattle.boot_replies.specs.declared.replies.Reply.{Reply}
 use Rattle.boot_replies.specs.Certified.{certified}
@@ -7,24 +7,50 @@ use Rattle.boot_core.specs.Machines.{CoreValue, kept_map}
 use Rattle.boot_core.specs.Steps.{Step}
 use Rattle.driver_connect.specs.declared.table.TableDriver.{TableDriver}
 use Rattle.c_interface.specs.declared.efi_core.LastBlock.TheVariants as block
-use Rattle.c_interface.specs.EfiCores.{EfiCoreValue, LeavesBlock, forgotten, meanings}
-use Rattle.c_interface.specs.Paths.{with_core, with_reply}
-use Rattle.c_interface.specs.Served.{Serves}
+use Rattle.c_interface.specs.EfiCores.{EfiCoreValue, LeavesBlock, forgotten, meanings, with_core, with_reply}
+use Rattle.c_interface.specs.LastCalls.{Left, left_of, nothing_left}
+use Rattle.c_interface.specs.Replies.{events_in}
+use Rattle.c_interface.specs.Served.{Makes, Serves, ServesLeaving}
 
+-- a call without a certificate, of which this is left
+pub call_left : {A : Type 0} (old begun new : EfiCoreValue A) (core : CoreValue TableDriver) (asked : Call A) (answer : Reply A) (left : Left A) → begun ≡ forgotten old
+    → LeavesBlock {A = A} old.certifies (kept_map old.certifies old.core.state asked) (certified old.core.state.parts.book.granule asked answer) block.Nothing
+    → Step (meanings begun) begun.core.state asked answer core.state → core.given ≡ begun.core.given → new.core ≡ core → new.certifies ≡ begun.certifies → new.records ≡ begun.records → new.block ≡ begun.block → new.last ≡ left → ServesLeaving old asked answer left new
+call_left {A = A} old begun new core asked answer left e none step given is_core is_certifies is_records is_block is_last = record {
+  step = rw is_core (rw e at step);
+  given = rw is_core (rw e at given);
+  certifies = is_certifies ∙ ap (λ (x : EfiCoreValue A). x.certifies) e;
+  records = is_records ∙ ap (λ (x : EfiCoreValue A). x.records) e;
+  block = rw (is_block, e) none;
+  last = is_last;
+}
+
+-- its reply
 pub reply_left : {A : Type 0} (old begun new : EfiCoreValue A) (core : CoreValue TableDriver) (asked : Call A) (answer : Reply A) → begun ≡ forgotten old
     → LeavesBlock {A = A} old.certifies (kept_map old.certifies old.core.state asked) (certified old.core.state.parts.book.granule asked answer) block.Nothing
     → Step (meanings begun) begun.core.state asked answer core.state → core.given ≡ begun.core.given → new ≡ with_reply (with_core begun core) answer → Serves old asked answer new
-reply_left {A = A} old begun new core asked answer e left step given n = record {
-  step = rw n (rw e at step);
-  given = rw n (rw e at given);
-  certifies = rw n (ap (λ (x : EfiCoreValue A). x.certifies) e);
-  block = rw (n, e) left;
-  last = rw n refl;
-}
+reply_left {A = A} old begun new core asked answer e none step given n =
+    call_left old begun new core asked answer _ e none step given (ap (λ (x : EfiCoreValue A). x.core) n) (ap (λ (x : EfiCoreValue A). x.certifies) n) (ap (λ (x : EfiCoreValue A). x.records) n) (ap (λ (x : EfiCoreValue A). x.block) n)
+    (ap (λ (x : EfiCoreValue A). x.last) n ∙ ap (λ (x : EfiCoreValue A). left_of x.records answer) e)
 
--- the same where the reply is kept in another form
-pub brief_left : {A : Type 0} (old begun new : EfiCoreValue A) (core : CoreValue TableDriver) (asked : Call A) (brief answer : Reply A) → begun ≡ forgotten old
+none_left : {A : Type 0} (records : Bool) (answer : Reply A) → records ≡ false → events_in answer ≡ [] → nothing_left ≡ left_of records answer
+none_left records answer r e = rw (r, e) refl
+
+-- nothing, where replies are not recorded and the call signals no events
+pub nothing_kept : {A : Type 0} (old begun new : EfiCoreValue A) (core : CoreValue TableDriver) (asked : Call A) (answer : Reply A) → begun ≡ forgotten old
     → LeavesBlock {A = A} old.certifies (kept_map old.certifies old.core.state asked) (certified old.core.state.parts.book.granule asked answer) block.Nothing
-    → Step (meanings begun) begun.core.state asked answer core.state → core.given ≡ begun.core.given → brief ≡ answer → new ≡ with_reply (with_core begun core) brief → Serves old asked answer new
-brief_left old begun new core asked brief answer e left step given same n =
-    reply_left old begun new core asked answer e left step given (n ∙ ap (with_reply (with_core begun core)) same)
+    → Step (meanings begun) begun.core.state asked answer core.state → core.given ≡ begun.core.given → old.records ≡ false → events_in answer ≡ [] → new ≡ with_core begun core → Serves old asked answer new
+nothing_kept {A = A} old begun new core asked answer e none step given records events n =
+    call_left old begun new core asked answer _ e none step given (ap (λ (x : EfiCoreValue A). x.core) n) (ap (λ (x : EfiCoreValue A). x.certifies) n) (ap (λ (x : EfiCoreValue A). x.records) n) (ap (λ (x : EfiCoreValue A). x.block) n)
+    (ap (λ (x : EfiCoreValue A). x.last) n ∙ ap (λ (x : EfiCoreValue A). x.last) e ∙ none_left old.records answer records events)
+
+-- the reply to a call that was made
+pub made_left : {A : Type 0} (old made new : EfiCoreValue A) (asked : Call A) (answer : Reply A) → Makes old asked answer made → new ≡ with_reply made answer → Serves old asked answer new
+made_left {A = A} old made new asked answer m n = record {
+  step = rw n m.step;
+  given = rw n m.given;
+  certifies = rw n m.certifies;
+  records = rw n m.records;
+  block = rw n m.block;
+  last = rw n (ap (λ (records : Bool). left_of records answer) m.records);
+}

@@ -1,5 +1,5 @@
 -- A core as a caller in C has it.
-use Rattle.std.specs.Prelude.{◌≡◌, ℕ, Bool, true, List, [], map, Option, Some, None, option_map, Result, MatchResult, Vec}
+use Rattle.std.specs.Prelude.{◌≡◌, ℕ, Bool, true, false, List, map, Option, Some, None, option_map, Result, MatchResult, Vec}
 use Rattle.std.specs.declared.alloc.AllocError.{AllocError}
 use Rattle.std.specs.List.{list_all}
 use Rattle.page_ranges.specs.declared.ranges.Descriptor.{Descriptor}
@@ -12,15 +12,36 @@ use Rattle.boot_replies.specs.declared.replies.Reply.{Reply}
 use Rattle.boot_core.specs.Machines.{CoreValue, certifying_state, preparing_state}
 use Rattle.c_interface.specs.declared.efi_core.LastBlock.{LastBlock}
 use Rattle.c_interface.specs.declared.efi_core.LastBlock.TheVariants as block
-use Rattle.c_interface.specs.Replies.{events_in}
+use Rattle.c_interface.specs.LastCalls.{Left, left_of, nothing_left}
 
--- the core, whether the certificates of its placements are kept as blocks of text, and what the
--- last call left to be asked for: its reply and its block
+-- the core, whether the certificates of its placements are kept as blocks of text and whether
+-- replies are recorded, and what the last call left to be asked for, with its block
 pub record EfiCoreValue (A : Type 0) : Type 0 where
   pub core : CoreValue TableDriver
   pub certifies : Bool
-  pub last : Option (Reply A)
+  pub records : Bool
+  pub last : Left A
   pub block : LastBlock A
+
+-- a core before any call, which keeps neither replies nor certificates
+abbrev pub unused_core : {A : Type 0} → CoreValue TableDriver → EfiCoreValue A
+unused_core core = record {
+  core = core;
+  certifies = false;
+  records = false;
+  last = nothing_left;
+  block = block.Nothing;
+}
+
+-- the same of another core
+abbrev pub with_core : {A : Type 0} → EfiCoreValue A → CoreValue TableDriver → EfiCoreValue A
+with_core c core = record {
+  core = core;
+  certifies = c.certifies;
+  records = c.records;
+  last = c.last;
+  block = c.block;
+}
 
 -- the same core, which from now on makes the certificates of its placements and keeps their blocks,
 -- or makes none
@@ -28,6 +49,17 @@ abbrev pub certifying_core : {A : Type 0} → Bool → EfiCoreValue A → EfiCor
 certifying_core certifies c = record {
   core = record { state = certifying_state certifies c.core.state; given = c.core.given };
   certifies = certifies;
+  records = c.records;
+  last = c.last;
+  block = c.block;
+}
+
+-- the same core, which from now on records replies, or records none
+abbrev pub recording_core : {A : Type 0} → Bool → EfiCoreValue A → EfiCoreValue A
+recording_core records c = record {
+  core = c.core;
+  certifies = c.certifies;
+  records = records;
   last = c.last;
   block = c.block;
 }
@@ -35,17 +67,18 @@ certifying_core certifies c = record {
 -- the same core, with memory reserved ahead for a number of placements more, and for the frees of
 -- what they place
 abbrev pub preparing_core : {A : Type 0} → ℕ → EfiCoreValue A → EfiCoreValue A
-preparing_core placements c = record {
-  core = record { state = preparing_state placements c.core.state; given = c.core.given };
+preparing_core placements c =
+    with_core c (record { state = preparing_state placements c.core.state; given = c.core.given })
+
+-- the same core, with what is left of a call that has this reply
+abbrev pub with_reply : {A : Type 0} → EfiCoreValue A → Reply A → EfiCoreValue A
+with_reply c answer = record {
+  core = c.core;
   certifies = c.certifies;
-  last = c.last;
+  records = c.records;
+  last = left_of c.records answer;
   block = c.block;
 }
-
--- the same core, with this reply and this block as those of the last call
-abbrev pub with_last : {A : Type 0} → EfiCoreValue A → Reply A → LastBlock A → EfiCoreValue A
-with_last c answer left =
-    record { core = c.core; certifies = c.certifies; last = Some answer; block = left }
 
 -- what a driver with fixed answers means
 abbrev pub table_meaning : TableDriver → Meaning
@@ -82,15 +115,12 @@ KeepsBlock before returned left =
     (λ kept. LeavesBlock true (option_map (λ entries. entries.items) kept) returned left)
     (λ e. left ≡ block.OutOfMemory)
 
--- the events that a reply has, if there is one
-abbrev pub events_if : {A : Type 0} → Option (Reply A) → List ℕ
-events_if None = []
-events_if (Some answer) = events_in answer
-
--- the events that the last call signals
-abbrev pub last_events : {A : Type 0} → EfiCoreValue A → List ℕ
-last_events c = events_if c.last
-
 -- a core with nothing left of a call
 abbrev pub forgotten : {A : Type 0} → EfiCoreValue A → EfiCoreValue A
-forgotten c = record { core = c.core; certifies = c.certifies; last = None; block = block.Nothing }
+forgotten c = record {
+  core = c.core;
+  certifies = c.certifies;
+  records = c.records;
+  last = nothing_left;
+  block = block.Nothing;
+}

@@ -5,7 +5,7 @@ pub mod CallFields
 pub mod CallLines
 pub mod Checks
 pub mod EfiCores
-pub mod LastReplies
+pub mod LastCalls
 pub mod Lines
 pub mod Making
 pub mod Opening

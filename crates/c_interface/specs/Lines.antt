@@ -1,5 +1,5 @@
 -- What a trace line leaves in a core.
-use Rattle.std.specs.Prelude.{◌≡◌, ◌⊎◌, ℕ, List, None}
+use Rattle.std.specs.Prelude.{◌≡◌, ◌⊎◌, ℕ, List}
 use Rattle.page_ranges.specs.Statuses.{status_number}
 use Rattle.page_ranges.specs.declared.statuses.Status.TheVariants.{Success, InvalidParameter, OutOfResources}
 use Rattle.trace_lines.specs.TraceLine.{line_of}
@@ -7,6 +7,7 @@ use Rattle.trace_lines.specs.declared.run_faults.RunFault.{RunFault}
 use Rattle.trace_lines.specs.declared.run_faults.RunFault.TheVariants as fault
 use Rattle.boot_trace.specs.TraceRuns.{Prints, StopsAt}
 use Rattle.c_interface.specs.EfiCores.{EfiCoreValue, meanings}
+use Rattle.c_interface.specs.LastCalls.{nothing_left}
 use Rattle.c_interface.specs.Served.{aborted}
 use Rattle.c_interface.specs.declared.efi_core.LastBlock.{LastBlock}
 use Rattle.c_interface.specs.declared.efi_core.LastBlock.TheVariants as block
@@ -26,7 +27,8 @@ StatusOfFault fault status left = (status ≡ status_number OutOfResources) × (
 pub record KeepsCore {A : Type 0} (old new : EfiCoreValue A) : Type 0 where
   pub given : new.core.given ≡ old.core.given
   pub certifies : new.certifies ≡ old.certifies
-  pub last : new.last ≡ None
+  pub records : new.records ≡ old.records
+  pub last : new.last ≡ nothing_left
 
 -- SUCCESS, and what is printed of the line is left; or the line stopped, and the status says why.
 abbrev pub RunsLine : {A : Type 0} → ℕ → List ℕ → EfiCoreValue A → ℕ → EfiCoreValue A → Type 0

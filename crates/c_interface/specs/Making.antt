@@ -12,6 +12,7 @@ use Rattle.c_machines.specs.DriverTables.{are_tables, driver_in, returned}
 use Rattle.c_machines.specs.MachineRecords.{IsReturned}
 use Rattle.c_interface.specs.declared.efi_core.LastBlock.TheVariants as block
 use Rattle.c_interface.specs.EfiCores.{EfiCoreValue}
+use Rattle.c_interface.specs.LastCalls.{nothing_left}
 
 -- the status that a fault is returned as
 abbrev pub fault_status : MachineFault → ℕ
@@ -19,7 +20,7 @@ fault_status Invalid = status_number InvalidParameter
 fault_status OutOfMemory = status_number OutOfResources
 
 -- The core is that of the machine that the records describe, with the drivers of the tables, before
--- any call, and with the most calls that a core can be left. It keeps no certificates.
+-- any call, and with the most calls that a core can be left. It keeps neither replies nor certificates.
 pub record IsMadeCore {A : Type 0} (size : ℕ) (records : List ℕ) (granule : ℕ)
     (tables : List DriverTable) (c : EfiCoreValue A) : Type 0 where
   pub machine : MachineValue
@@ -28,7 +29,8 @@ pub record IsMadeCore {A : Type 0} (size : ℕ) (records : List ℕ) (granule : 
   pub are_tables : are_tables tables ≡ true
   pub drivers : map returned c.core.given.drivers ≡ map driver_in tables
   pub certifies : c.certifies ≡ false
-  pub last : c.last ≡ None
+  pub records : c.records ≡ false
+  pub last : c.last ≡ nothing_left
   pub block : c.block ≡ block.Nothing
 
 -- The pool of a core lies in memory whose pages are those of the machine from one on.

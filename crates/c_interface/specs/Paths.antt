@@ -14,6 +14,7 @@ use Rattle.boot_core.specs.Steps.{Step}
 use Rattle.driver_connect.specs.Drivers.{Meaning}
 use Rattle.driver_connect.specs.declared.table.TableDriver.{TableDriver}
 use Rattle.c_interface.specs.EfiCores.{EfiCoreValue, forgotten, meanings}
+use Rattle.c_interface.specs.LastCalls.{left_of}
 use Rattle.c_interface.specs.Replies.{number_in, returned_status, status_in}
 use Rattle.c_interface.specs.Served.{IsSpent, LeavesNothing, Serves, aborted}
 
@@ -42,24 +43,15 @@ path_type = 4
 abbrev pub most_path_calls : ℕ
 most_path_calls = 4
 
--- the drivers, the switch and the block of a core are as they were, and this reply is that of the
--- last call
+-- the drivers, the switches and the block of a core are as they were, and this is left of a call
+-- with this reply
 pub record IsLeft {A : Type 0} (old : EfiCoreValue A) (reply : Reply A) (new : EfiCoreValue A)
     : Type 0 where
   pub given : new.core.given ≡ old.core.given
   pub certifies : new.certifies ≡ old.certifies
-  pub last : new.last ≡ Some reply
+  pub records : new.records ≡ old.records
+  pub last : new.last ≡ left_of old.records reply
   pub block : new.block ≡ old.block
-
--- the same core, with this reply as that of the last call
-abbrev pub with_reply : {A : Type 0} → EfiCoreValue A → Reply A → EfiCoreValue A
-with_reply c answer =
-    record { core = c.core; certifies = c.certifies; last = Some answer; block = c.block }
-
--- the same of another core
-abbrev pub with_core : {A : Type 0} → EfiCoreValue A → CoreValue TableDriver → EfiCoreValue A
-with_core c core =
-    record { core = core; certifies = c.certifies; last = c.last; block = c.block }
 
 -- the calls that write a path to a block of the pool, and install the block's address as the device
 -- path of a handle

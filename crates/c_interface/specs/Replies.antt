@@ -70,3 +70,13 @@ events_in answer = []
 abbrev pub returned_or : {T : Type 0} → T → Option T → T
 returned_or old (Some returned) = returned
 returned_or old None = old
+
+-- the same of a result that is a number
+abbrev pub value_or : ℕ → Result ℕ Status → ℕ
+value_or old (Ok value) = value
+value_or old (Err status) = old
+
+-- the same of OpenProtocol's, which has no number for TEST_PROTOCOL
+abbrev pub opened_or : ℕ → Result (Option ℕ) Status → ℕ
+opened_or old (Ok value) = returned_or old value
+opened_or old (Err status) = old

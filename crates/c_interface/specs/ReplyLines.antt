@@ -27,7 +27,7 @@ PrintsReply number answer left printed =
     (entries : List Descriptor) × CarriesEntries answer entries
     × Joins (reply_text number entries answer) left printed
 
--- The same of the last call; nothing where it left no reply.
+-- The same of the last call; nothing where no reply is left.
 abbrev pub PrintsLast : {A : Type 0} → ℕ → Option (Reply A) → LastBlock A → LastBlock A → Type 0
 PrintsLast number None left printed = printed ≡ block.Nothing
 PrintsLast number (Some answer) left printed = PrintsReply number answer left printed
@@ -35,12 +35,12 @@ PrintsLast number (Some answer) left printed = PrintsReply number answer left pr
 -- It is put in the caller's buffer as a block is, its bytes in the caller's variable.
 abbrev pub ReturnsReply : {A : Type 0} → EfiCoreValue A → ℕ → List ℕ → ℕ → ℕ → List ℕ → ℕ → Type 0
 ReturnsReply {A = A} core number buffer size status new_buffer new_size =
-    (printed : LastBlock A) × PrintsLast number core.last core.block printed
+    (printed : LastBlock A) × PrintsLast number core.last.reply core.block printed
     × ReturnsBlock printed buffer size status new_buffer new_size
 
 -- What is printed of a call that was served is what a run of a trace prints of its line.
 abbrev pub PrintedReplyLaw : Type 0 → Type 0
 PrintedReplyLaw A =
     (old new : EfiCoreValue A) (c : Call A) (answer : Reply A) (number : ℕ) (text : Vec ℕ A) →
-    Serves old c answer new → PrintsLast number new.last new.block (block.Text text)
+    Serves old c answer new → PrintsLast number new.last.reply new.block (block.Text text)
     → PrintsCall old.certifies number old.core.state.parts.book c answer text.items

@@ -19,21 +19,32 @@ use Rattle.c_machines.specs.Guids.{standard_guid}
 use Rattle.guid_handles.specs.HandleChanges.{max_handles}
 use Rattle.c_interface.specs.Buffers.{front_filled}
 use Rattle.c_interface.specs.EfiCores.{EfiCoreValue, LeavesBlock, forgotten, meanings}
+use Rattle.c_interface.specs.LastCalls.{Left, left_of, nothing_left}
 use Rattle.c_interface.specs.Replies.{status_in, number_in, numbers_in, returned_or}
 
 -- the status of a call that is one too many: EFI_ABORTED
 abbrev pub aborted : ℕ
 aborted = 0x8000000000000015
 
--- A call is a step of the core with this reply, and leaves the reply and its block to be asked for.
-pub record Serves {A : Type 0} (old : EfiCoreValue A) (c : Call A) (answer : Reply A)
-    (new : EfiCoreValue A) : Type 0 where
+-- A call is a step of the core with this reply, after which this is left, and the block of its
+-- certificate.
+pub record ServesLeaving {A : Type 0} (old : EfiCoreValue A) (c : Call A) (answer : Reply A)
+    (left : Left A) (new : EfiCoreValue A) : Type 0 where
   pub step : Step (meanings old) old.core.state c answer new.core.state
   pub given : new.core.given ≡ old.core.given
   pub certifies : new.certifies ≡ old.certifies
+  pub records : new.records ≡ old.records
   pub block : LeavesBlock old.certifies (kept_map old.certifies old.core.state c)
       (certified old.core.state.parts.book.granule c answer) new.block
-  pub last : new.last ≡ Some answer
+  pub last : new.last ≡ left
+
+-- A call is served: its events are left to be asked for, and its reply where replies are recorded.
+abbrev pub Serves : {A : Type 0} → EfiCoreValue A → Call A → Reply A → EfiCoreValue A → Type 0
+Serves old c answer new = ServesLeaving old c answer (left_of old.records answer) new
+
+-- A call is made, and its reply is not left yet.
+abbrev pub Makes : {A : Type 0} → EfiCoreValue A → Call A → Reply A → EfiCoreValue A → Type 0
+Makes old c answer new = ServesLeaving old c answer nothing_left new
 
 -- No call can be made any more: the core is as it was, with nothing left of the call before.
 pub record IsSpent {A : Type 0} (old new : EfiCoreValue A) : Type 0 where
@@ -152,7 +163,8 @@ returned_places returned status before = before
 pub record LeavesNothing {A : Type 0} (old new : EfiCoreValue A) : Type 0 where
   pub given : new.core.given ≡ old.core.given
   pub certifies : new.certifies ≡ old.certifies
-  pub last : new.last ≡ None
+  pub records : new.records ≡ old.records
+  pub last : new.last ≡ nothing_left
   pub block : new.block ≡ block.Nothing
 
 -- GetMemoryMap with a buffer of the caller's

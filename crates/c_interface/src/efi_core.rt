@@ -1,19 +1,18 @@
 //! A core that a caller in C has.
-ghost use Rattle.std.specs.Prelude.{◌≡◌, ◌<◌, false, length, IfNone, IfSome, None, OnErr, OnOk, Some, true, option_and_then};
-ghost use Rattle.c_interface.specs.EfiCores.{KeepsBlock, with_last};
+ghost use Rattle.std.specs.Prelude.{◌≡◌, ◌<◌, false, length, IfNone, IfSome, OnErr, OnOk, true};
+ghost use Rattle.c_interface.specs.EfiCores.{KeepsBlock, unused_core};
 ghost use Rattle.page_ranges.specs.Statuses.{status_number};
 ghost use Rattle.boot_replies.specs.Certified.{certified};
 ghost use Rattle.c_interface.specs.Buffers.{front_filled};
-ghost use Rattle.c_interface.specs.EfiCores.{certifying_core, forgotten, last_events, preparing_core};
-ghost use Rattle.c_interface.specs.LastReplies.{brief_reply, is_of_memory_if};
-ghost use Rattle.c_interface.specs.Paths.{with_reply};
+ghost use Rattle.c_interface.specs.EfiCores.{certifying_core, forgotten, preparing_core, recording_core, with_reply};
+ghost use Rattle.c_interface.specs.LastCalls.{nothing_left};
 ghost use Rattle.c_interface.specs.Replies.{number_in, returned_or, status_in};
-ghost use Rattle.c_interface.specs.Served.{AnswersStatus, AnswersNumber, AnswersNumbers, ReturnsBlock};
+ghost use Rattle.c_interface.specs.Served.{AnswersStatus, AnswersNumber, AnswersNumbers, IsSpent, Makes, ReturnsBlock};
 
 use crate::buffers::copy_to_front;
-use crate::last_reply::{BriefReply, LastReply};
-use crate::replies::{number_in, status_in, status_number_in};
-use boot_core::{Call, Core, Reply, certified, map_before};
+use crate::last_call::LastCall;
+use crate::replies::{number_in, numbers_in, status_in};
+use boot_core::{Call, Reply, Services, certified, map_before};
 use certificate_blocks::print_block;
 use driver_connect::TableDriver;
 use page_ranges::{Descriptor, Status};
@@ -55,37 +54,39 @@ impl<A: Allocator> LastBlock<A> {
 #[derive(Drop)]
 pub struct EfiCore<A: Allocator = Global> {
     pub(crate) alloc: A,
-    pub(crate) core: Core<TableDriver, A>,
+    pub(crate) core: Services<TableDriver, A>,
     pub(crate) certifies: bool,
-    pub(crate) last: LastReply<A>,
+    pub(crate) records: bool,
+    pub(crate) last: LastCall<A>,
     pub(crate) block: LastBlock<A>,
 }
 
 impl<A: Allocator> Model for EfiCore<A> {
     ghost use Rattle.c_interface.specs.EfiCores.{EfiCoreValue};
-    ghost use Rattle.c_interface.specs.LastReplies.{reply_in};
+    ghost use Rattle.c_interface.specs.LastCalls.{left_in};
 
     ghost Value = { EfiCoreValue A };
 
     ghost view = { λ c. record {
       core = c.core;
       certifies = c.certifies;
-      last = reply_in c.last;
+      records = c.records;
+      last = left_in c.last;
       block = c.block;
     } };
 }
 
 impl<A: Allocator + Copy> EfiCore<A> {
-    /// A core before any call; it keeps no certificates.
-    pub fn new(alloc: A, core: Core<TableDriver, A>) -> EfiCore<A>
-        ensures { result
-            ≡ record { core = core; certifies = false; last = None; block = LastBlock.Nothing } }
+    /// A core before any call; it keeps neither replies nor certificates.
+    pub fn new(alloc: A, core: Services<TableDriver, A>) -> EfiCore<A>
+        ensures { result ≡ unused_core core }
     {
         EfiCore {
             alloc,
             core,
             certifies: false,
-            last: LastReply::none(),
+            records: false,
+            last: LastCall::Nothing,
             block: LastBlock::Nothing,
         }
     }
@@ -97,6 +98,13 @@ impl<A: Allocator + Copy> EfiCore<A> {
     {
         self.core.certify(certifies);
         self.certifies = certifies;
+    }
+
+    /// Keeps the reply of each call from now on, for `reply_line`, or keeps none.
+    pub fn record(&mut self, records: bool)
+        ensures { self.new ≡ recording_core records self.old }
+    {
+        self.records = records;
     }
 
     /// Reserves memory for a number of placements of pages and for the frees of what they place. On an `Err` none is
@@ -112,7 +120,7 @@ impl<A: Allocator + Copy> EfiCore<A> {
     pub(crate) fn forget(&mut self)
         ensures { self.new ≡ forgotten self.old }
     {
-        self.last.forget();
+        self.last = LastCall::Nothing;
         self.block = LastBlock::Nothing;
     }
 
@@ -127,129 +135,80 @@ impl<A: Allocator + Copy> EfiCore<A> {
         self.core.calls_left() > 0
     }
 
-    // Keeps what is left of a call.
-    fn keep(&mut self, reply: Reply<A>, block: LastBlock<A>)
-        ensures { self.new ≡ with_last self.old reply block }
-    {
-        self.last.leave_in_place(reply);
-        self.block = block;
-    }
-
-    /// Keeps the reply to a call before which no reply is left, and returns its status.
+    /// Leaves what is to be asked for of a reply, and returns its status.
     #[inline(always)]
     pub(crate) fn return_status(&mut self, reply: Reply<A>) -> u64
-        requires { self.old.last ≡ None }
         ensures status { result ≡ status_number (status_in reply) }
         ensures core { self.new ≡ with_reply self.old reply }
     {
-        self.return_known(status_in(&reply), reply)
+        let status = status_in(&reply).number();
+        self.last = LastCall::of(self.records, reply);
+        status
     }
 
-    /// The same, where the reply's status is known.
-    #[inline(always)]
-    pub(crate) fn return_known(&mut self, status: Status, reply: Reply<A>) -> u64
-        requires last { self.old.last ≡ None }
-        requires status { status ≡ status_in reply }
-        ensures status { result ≡ status_number (status_in reply) }
-        ensures core { self.new ≡ with_reply self.old reply }
-    {
-        self.last.leave(reply);
-        status.number()
-    }
-
-    /// Keeps a brief reply, whose status is known, and returns that.
-    #[inline(always)]
-    pub(crate) fn return_brief(&mut self, status: Status, brief: BriefReply) -> u64
-        requires { status ≡ status_in {A = A} (brief_reply brief) }
-        ensures status { result ≡ status_number status }
-        ensures core { self.new ≡ with_reply self.old (brief_reply brief) }
-    {
-        self.last.leave_brief(brief);
-        status.number()
-    }
-
-    /// The same; where the reply carries a number it is put in the caller's variable.
+    /// The same; where the reply has a number it is put in the caller's variable.
     #[inline(always)]
     pub(crate) fn return_number(&mut self, reply: Reply<A>, place: &mut u64) -> u64
-        requires { self.old.last ≡ None }
         ensures status { result ≡ status_number (status_in reply) }
         ensures number { place.new ≡ returned_or place.old (number_in reply) }
         ensures core { self.new ≡ with_reply self.old reply }
     {
-        let status = status_in(&reply).number();
         if let Some(number) = number_in(&reply) {
             *place = number;
         }
-        self.last.leave(reply);
-        status
-    }
-
-    /// Keeps the reply to a call in place of the one that the call before left, and returns its status.
-    pub(crate) fn return_in_place(&mut self, reply: Reply<A>) -> u64
-        ensures status { result ≡ status_number (status_in reply) }
-        ensures core { self.new ≡ with_reply self.old reply }
-    {
-        let status = status_number_in(&reply);
-        self.last.leave_in_place(reply);
-        status
-    }
-
-    /// The reply of the last call, unless it is a brief one of a memory service.
-    pub(crate) fn other_reply(&self) -> Option<&Reply<A>>
-        ensures some { IfSome result (λ reply. self.now.last ≡ Some reply.now) }
-        ensures none { IfNone result (is_of_memory_if self.now.last ≡ true) }
-    {
-        self.last.other()
-    }
-
-    /// The number that the reply to the last call carries.
-    pub(crate) fn last_number(&self) -> Option<u64>
-        ensures { result ≡ option_and_then number_in self.now.last }
-    {
-        self.last.number()
-    }
-
-    /// Makes a call, and returns its status as a number of EFI_STATUS.
-    pub(crate) fn answer(&mut self, call: &Call<A>) -> u64
-        ensures { AnswersStatus self.old call.now result self.new }
-    {
-        if !self.begin() {
-            return ABORTED;
-        }
-        if self.certifies {
-            return self.answer_with_block(call);
-        }
-        let reply = self.core.call(call);
         self.return_status(reply)
     }
 
+    /// Makes a call, and returns its reply; `None` where no further call may be made. Only the block of its certificate
+    /// is left.
+    pub(crate) fn make_call(&mut self, call: &Call<A>) -> Option<Reply<A>>
+        ensures made { IfSome result (λ reply. Makes self.old call.now reply self.new) }
+        ensures spent { IfNone result (IsSpent self.old self.new) }
+    {
+        if !self.begin() {
+            return None;
+        }
+        if self.certifies {
+            return Some(self.make_certified(call));
+        }
+        Some(self.core.call(call))
+    }
+
     // The same where blocks are kept, of which there is none of the call before.
-    fn answer_with_block(&mut self, call: &Call<A>) -> u64
+    fn make_certified(&mut self, call: &Call<A>) -> Reply<A>
         requires certifies { self.old.certifies ≡ true }
         requires left { 0 < self.old.core.state.calls_left }
-        ensures { AnswersStatus self.old call.now result self.new }
+        requires nothing { self.old.last ≡ nothing_left }
+        ensures { Makes self.old call.now result self.new }
     {
         let granule = self.core.granule();
         let before = map_before(self.alloc, &self.core, call, true);
         let reply = self.core.call(call);
-        let status = status_number_in(&reply);
-        let block = block_of(self.alloc, granule, &before, call, &reply);
-        self.keep(reply, block);
-        status
+        self.block = block_of(self.alloc, granule, &before, call, &reply);
+        reply
     }
 
-    /// The same for a call that returns a number: where it succeeds with one it is put in the caller's variable.
+    /// Makes a call, and returns its status as a number of EFI_STATUS.
+    pub(crate) fn answer_status(&mut self, call: &Call<A>) -> u64
+        ensures { AnswersStatus self.old call.now result self.new }
+    {
+        match self.make_call(call) {
+            Some(reply) => self.return_status(reply),
+            None => ABORTED,
+        }
+    }
+
+    /// The same of a call that returns a number: where it succeeds with one it is put in the caller's variable.
     pub(crate) fn answer_number(&mut self, call: &Call<A>, place: &mut u64) -> u64
         ensures { AnswersNumber self.old call.now place.old result place.new self.new }
     {
-        let status = self.answer(call);
-        if let Some(number) = self.last.number() {
-            *place = number;
+        match self.make_call(call) {
+            Some(reply) => self.return_number(reply, place),
+            None => ABORTED,
         }
-        status
     }
 
-    /// The same for a call that returns two numbers.
+    /// The same of a call that returns two numbers.
     pub(crate) fn answer_numbers(
         &mut self,
         call: &Call<A>,
@@ -259,29 +218,24 @@ impl<A: Allocator + Copy> EfiCore<A> {
         ensures { AnswersNumbers self.old call.now (first.old, second.old) result
             (first.new, second.new) self.new }
     {
-        let status = self.answer(call);
-        if let Some(numbers) = self.last.numbers() {
+        let Some(reply) = self.make_call(call) else {
+            return ABORTED;
+        };
+        if let Some(numbers) = numbers_in(&reply) {
             *first = numbers.0;
             *second = numbers.1;
         }
-        status
+        self.return_status(reply)
     }
 
     /// How many events the last call signals; the first of them are copied into a buffer, as many as it has room for.
     pub fn events(&self, buffer: &mut [u64]) -> usize
-        ensures count { result ≡ length (last_events self.now) }
-        ensures events { buffer.new ≡ front_filled (last_events self.now) buffer.old }
+        ensures count { result ≡ length (self.now.last.events) }
+        ensures events { buffer.new ≡ front_filled (self.now.last.events) buffer.old }
     {
-        let events = self.signaled();
+        let events = self.last.events();
         copy_to_front(buffer, events);
         events.len()
-    }
-
-    // The events that the last call signals.
-    fn signaled(&self) -> &[u64]
-        ensures { result.now ≡ last_events self.now }
-    {
-        self.last.events()
     }
 
     /// The block of the certificate of the last call, in the front of a buffer; their number is put into

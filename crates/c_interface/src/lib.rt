@@ -9,7 +9,7 @@ mod call_lines;
 mod checks;
 mod efi_core;
 mod entries;
-mod last_reply;
+mod last_call;
 mod laws;
 mod lines;
 mod lists;

@@ -1,8 +1,9 @@
 //! The services that take or return a list.
 ghost use Rattle.std.specs.Prelude.{◌≡◌, map, take};
 ghost use Rattle.boot_calls.specs.declared.calls.Call.TheVariants as call;
+ghost use Rattle.boot_replies.specs.declared.replies.Reply.TheVariants as reply;
 ghost use Rattle.c_interface.specs.Buffers.{front_filled};
-ghost use Rattle.c_interface.specs.Served.{AnswersNumber, handle_bytes, returned_size, too_many};
+ghost use Rattle.c_interface.specs.Served.{AnswersNumber, ReturnsGuids, handle_bytes, returned_size, too_many};
 ghost use Rattle.c_interface.specs.Services.{InstallsAll, LocatesHandles, ListsGuids, Connects};
 ghost use Rattle.c_machines.specs.Guids.{interface_in, standard_guid};
 
@@ -10,7 +11,7 @@ use crate::buffers::copy_to_front;
 use crate::efi_core::{ABORTED, EfiCore};
 use arrayvec::ArrayVec;
 use boot_calls::HANDLE_SIZE;
-use boot_core::{Call, Reply};
+use boot_core::Reply;
 use c_machines::{Guid, Interface};
 use guid_handles::{MAX_HANDLES, MAX_INSTALLED};
 use page_ranges::Status;
@@ -34,21 +35,16 @@ impl<A: Allocator + Copy> EfiCore<A> {
         ensures { LocatesHandles self.old search guid.now key needed.old buffer.old result
             needed.new buffer.new self.new }
     {
-        let guid = guid.uuid();
-        let size = handle_bytes(buffer.len());
-        let status = self.answer(&Call::LocateHandle {
-            search,
-            guid,
-            key,
-            size,
-        });
-        if let Some(Reply::LocateHandle(returned)) = self.other_reply() {
-            copy_to_front(buffer, returned.handles.as_slice());
-            if let Some(size) = returned_size(returned.status, returned.size) {
-                *needed = size;
-            }
+        if !self.begin() {
+            return ABORTED;
         }
-        status
+        let size = handle_bytes(buffer.len());
+        let located = self.core.locate_handle(search, guid.uuid(), key, size);
+        copy_to_front(buffer, located.handles.as_slice());
+        if let Some(size) = returned_size(located.status, located.size) {
+            *needed = size;
+        }
+        self.return_status(Reply::LocateHandle(located))
     }
 
     /// ProtocolsPerHandle. The variable `count` receives how many GUIDs there are; they are copied into the buffer.
@@ -58,16 +54,13 @@ impl<A: Allocator + Copy> EfiCore<A> {
         ensures { ListsGuids self.old handle count.old buffer.old result count.new buffer.new
             self.new }
     {
-        let status = self.answer(&Call::ProtocolsPerHandle { handle });
-        let Some(Reply::ProtocolsPerHandle(Ok(guids))) = self.other_reply() else {
-            return status;
-        };
-        *count = guids.len() as u64;
-        if buffer.len() < guids.len() {
-            return Status::BufferTooSmall.number();
+        if !self.begin() {
+            return ABORTED;
         }
-        copy_guids(buffer, guids.as_slice());
-        Status::Success.number()
+        let listed = self.core.protocols_per_handle(handle);
+        let status = return_guids(buffer, count, &listed);
+        self.return_status(Reply::ProtocolsPerHandle(listed));
+        status
     }
 
     /// InstallMultipleProtocolInterfaces. The variable `handle` has the handle, 0 for a new one, and receives it. This
@@ -88,8 +81,8 @@ impl<A: Allocator + Copy> EfiCore<A> {
         if !self.begin() {
             return ABORTED;
         }
-        let reply = self.core.install_multiple(*handle, pairs);
-        self.return_number(reply, handle)
+        let installed = self.core.install_multiple(*handle, pairs);
+        self.return_number(Reply::InstallMultipleProtocolInterfaces(installed), handle)
     }
 
     /// ConnectController, with the drivers that are tried first.
@@ -99,8 +92,8 @@ impl<A: Allocator + Copy> EfiCore<A> {
         if !self.begin() {
             return ABORTED;
         }
-        let reply = self.core.connect_controller(handle, drivers, recursive);
-        self.return_status(reply)
+        let connected = self.core.connect_controller(handle, drivers, recursive);
+        self.return_status(Reply::ConnectController(connected))
     }
 }
 
@@ -131,6 +124,28 @@ pub(crate) fn first_pairs(interfaces: &[Interface]) -> ArrayVec<(Uuid, u64), TOO
         pairs.push((interface.guid.uuid(), interface.value));
     }
     pairs
+}
+
+/// How many GUIDs are listed in the caller's variable, and the GUIDs in the caller's buffer, where it has room for all.
+/// Returns the status.
+fn return_guids<A: Allocator>(
+    buffer: &mut [Guid],
+    count: &mut u64,
+    listed: &Result<Vec<Uuid, A>, Status>,
+) -> u64
+    ensures { ReturnsGuids count.old buffer.old result count.new buffer.new
+        (reply.ProtocolsPerHandle listed.now) }
+{
+    let guids = match listed {
+        Ok(guids) => guids,
+        Err(status) => return status.number(),
+    };
+    *count = guids.len() as u64;
+    if buffer.len() < guids.len() {
+        return Status::BufferTooSmall.number();
+    }
+    copy_guids(buffer, guids.as_slice());
+    Status::Success.number()
 }
 
 /// Copies GUIDs into the front of a buffer, as many as it has room for.

@@ -5,7 +5,7 @@ ghost use Rattle.page_ranges.specs.Statuses.{status_number};
 ghost use Rattle.c_interface.specs.Making.{MakesCore, fault_status};
 
 use crate::efi_core::EfiCore;
-use boot_core::{Core, Machine, PoolMemory};
+use boot_core::{Machine, PoolMemory, Services};
 use c_machines::{DriverTable, MachineFault, are_tables, machine_of, table_drivers};
 use driver_connect::TableDriver;
 use page_ranges::Status;
@@ -88,12 +88,12 @@ fn core_of<A: Allocator + Copy>(
     machine: Machine<A>,
     drivers: Vec<TableDriver, A>,
     memory: Option<PoolMemory>,
-) -> Result<Core<TableDriver, A>, AllocError>
+) -> Result<Services<TableDriver, A>, AllocError>
     ensures { IfOk result (λ c. c ≡ new_core machine drivers.items memory) }
 {
     match memory {
-        Some(memory) => Core::over(alloc, machine, drivers, memory),
-        None => Core::new(alloc, machine, drivers),
+        Some(memory) => Services::over(alloc, machine, drivers, memory),
+        None => Services::new(alloc, machine, drivers),
     }
 }
 

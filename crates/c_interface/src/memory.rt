@@ -5,7 +5,7 @@ ghost use Rattle.c_interface.specs.Served.{AnswersStatus, AnswersRead};
 ghost use Rattle.c_interface.specs.Services.{AllocatesPages, AllocatesPool, Maps};
 
 use crate::efi_core::{ABORTED, EfiCore};
-use crate::last_reply::BriefReply;
+use crate::replies::{return_block, return_pages, returned_status};
 use boot_core::{Call, Reply};
 use map_keys::{DESCRIPTOR_VERSION, RECORD_SIZE};
 use page_ranges::Status;
@@ -17,7 +17,7 @@ impl<A: Allocator + Copy> EfiCore<A> {
     pub fn allocate_pages(&mut self, kind: u32, mtype: u32, pages: u64, memory: &mut u64) -> u64
         ensures { AllocatesPages self.old kind mtype pages memory.old result memory.new self.new }
     {
-        if self.certifies {
+        if self.certifies || self.records {
             let call = Call::AllocatePages {
                 kind,
                 mtype,
@@ -29,30 +29,21 @@ impl<A: Allocator + Copy> EfiCore<A> {
         if !self.begin() {
             return ABORTED;
         }
-        match self.core.allocate_pages(kind, mtype, pages, *memory) {
-            Ok(placed) => {
-                *memory = placed.address;
-                if placed.certificate.is_some() {
-                    return self.return_known(Status::Success, Reply::AllocatePages(Ok(placed)));
-                }
-                let brief = BriefReply::AllocatePages(Ok(placed.address));
-                self.return_brief(Status::Success, brief)
-            }
-            Err(status) => self.return_brief(status, BriefReply::AllocatePages(Err(status))),
-        }
+        let placed = self.core.allocate_pages(kind, mtype, pages, *memory);
+        return_pages(placed, memory)
     }
 
     /// FreePages.
     pub fn free_pages(&mut self, memory: u64, pages: u64) -> u64
         ensures { AnswersStatus self.old (call.FreePages memory pages) result self.new }
     {
+        if self.records {
+            return self.answer_status(&Call::FreePages { memory, pages });
+        }
         if !self.begin() {
             return ABORTED;
         }
-        match self.core.free_pages(memory, pages) {
-            Ok(()) => self.return_brief(Status::Success, BriefReply::FreePages(Ok(()))),
-            Err(status) => self.return_brief(status, BriefReply::FreePages(Err(status))),
-        }
+        returned_status(&self.core.free_pages(memory, pages)).number()
     }
 
     /// GetMemoryMap. The variables receive the bytes that the map takes, its key, the bytes of a record and their
@@ -106,52 +97,41 @@ impl<A: Allocator + Copy> EfiCore<A> {
         if !self.begin() {
             return ABORTED;
         }
-        match self.core.pool_write(address, bytes) {
-            Ok(()) => self.return_brief(Status::Success, BriefReply::PoolWrite(Ok(()))),
-            Err(status) => self.return_brief(status, BriefReply::PoolWrite(Err(status))),
-        }
+        let written = self.core.pool_write(address, bytes);
+        self.return_status(Reply::PoolWrite(written))
     }
 
     /// AllocatePool. The variable `buffer` receives the block's address.
     pub fn allocate_pool(&mut self, mtype: u32, size: u64, buffer: &mut u64) -> u64
         ensures { AllocatesPool self.old mtype size buffer.old result buffer.new self.new }
     {
-        if self.certifies {
+        if self.certifies || self.records {
             return self.answer_number(&Call::AllocatePool { mtype, size }, buffer);
         }
         if !self.begin() {
             return ABORTED;
         }
-        match self.core.allocate_pool(mtype, size) {
-            Ok((address, certificate)) => {
-                *buffer = address;
-                if certificate.is_some() {
-                    let reply = Reply::AllocatePool(Ok((address, certificate)));
-                    return self.return_known(Status::Success, reply);
-                }
-                self.return_brief(Status::Success, BriefReply::AllocatePool(Ok(address)))
-            }
-            Err(status) => self.return_brief(status, BriefReply::AllocatePool(Err(status))),
-        }
+        let placed = self.core.allocate_pool(mtype, size);
+        return_block(placed, buffer)
     }
 
     /// FreePool.
     pub fn free_pool(&mut self, address: u64) -> u64
         ensures { AnswersStatus self.old (call.FreePool address) result self.new }
     {
+        if self.records {
+            return self.answer_status(&Call::FreePool { address });
+        }
         if !self.begin() {
             return ABORTED;
         }
-        match self.core.free_pool(address) {
-            Ok(()) => self.return_brief(Status::Success, BriefReply::FreePool(Ok(()))),
-            Err(status) => self.return_brief(status, BriefReply::FreePool(Err(status))),
-        }
+        returned_status(&self.core.free_pool(address)).number()
     }
 
     /// ExitBootServices.
     pub fn exit_boot_services(&mut self, key: u64) -> u64
         ensures { AnswersStatus self.old (call.ExitBootServices key) result self.new }
     {
-        self.answer(&Call::ExitBootServices { key })
+        self.answer_status(&Call::ExitBootServices { key })
     }
 }

@@ -1,8 +1,8 @@
 //! Device paths in the caller's memory.
 ghost use Rattle.std.specs.Prelude.{◌≡◌, ◌+◌, ◌≤◌};
 ghost use Rattle.c_machines.specs.Guids.{guid_in};
-ghost use Rattle.c_interface.specs.EfiCores.{meanings};
-ghost use Rattle.c_interface.specs.Paths.{AnswersPath, InstallsBlock, InstallsPath, RunsUntilRefused, path_calls, with_core};
+ghost use Rattle.c_interface.specs.EfiCores.{meanings, with_core};
+ghost use Rattle.c_interface.specs.Paths.{AnswersPath, InstallsBlock, InstallsPath, RunsUntilRefused, path_calls};
 
 use crate::efi_core::{ABORTED, EfiCore};
 use crate::replies::{number_in, status_in};
@@ -62,11 +62,15 @@ impl<A: Allocator + Copy> EfiCore<A> {
             self.forget();
             return ABORTED;
         }
-        let status = self.answer(&Call::AllocatePool {
+        let Some(placed) = self.make_call(&Call::AllocatePool {
             mtype: BOOT_SERVICES_DATA,
             size: path.len() as u64,
-        });
-        match self.last_number() {
+        }) else {
+            return ABORTED;
+        };
+        let block = number_in(&placed);
+        let status = self.return_status(placed);
+        match block {
             Some(block) => self.install_at(handle, path, block, address),
             None => status,
         }
@@ -81,11 +85,11 @@ impl<A: Allocator + Copy> EfiCore<A> {
         let reply = self.write_path(*handle, path, block);
         if status_in(&reply) != Status::Success {
             let _freed = self.core.free_pool(block);
-            return self.return_in_place(reply);
+            return self.return_status(reply);
         }
         *handle = number_in(&reply).unwrap_or(*handle);
         *address = block;
-        self.return_in_place(reply)
+        self.return_status(reply)
     }
 
     // Writes a path to its block, and installs the block's address.
@@ -99,7 +103,10 @@ impl<A: Allocator + Copy> EfiCore<A> {
     {
         let pair = [(device_path_guid(), block)];
         match self.core.pool_write(block, path) {
-            Ok(()) => self.core.install_multiple(handle, &pair),
+            Ok(()) => {
+                let installed = self.core.install_multiple(handle, &pair);
+                Reply::InstallMultipleProtocolInterfaces(installed)
+            }
             Err(status) => Reply::PoolWrite(Err(status)),
         }
     }

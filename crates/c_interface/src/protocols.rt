@@ -3,7 +3,8 @@ ghost use Rattle.std.specs.Prelude.{◌≡◌};
 ghost use Rattle.c_interface.specs.Services.{Installs, Uninstalls, Reinstalls, Registers, LocatesBuffer, LocatesProtocol, LocatesPath, HandlesProtocol, Opens, Closes, ListsOpens, Disconnects};
 
 use crate::efi_core::{ABORTED, EfiCore};
-use boot_core::Call;
+use crate::replies::{return_opened, return_value, returned_status};
+use boot_core::{Call, Reply};
 use c_machines::Guid;
 use std::alloc::Allocator;
 
@@ -21,10 +22,10 @@ impl<A: Allocator + Copy> EfiCore<A> {
         if !self.begin() {
             return ABORTED;
         }
-        let reply = self
+        let installed = self
             .core
             .install_protocol_interface(*handle, guid.uuid(), kind, value);
-        self.return_number(reply, handle)
+        self.return_number(Reply::InstallProtocolInterface(installed), handle)
     }
 
     /// UninstallProtocolInterface.
@@ -34,8 +35,8 @@ impl<A: Allocator + Copy> EfiCore<A> {
         if !self.begin() {
             return ABORTED;
         }
-        let reply = self.core.uninstall(handle, guid.uuid(), value);
-        self.return_status(reply)
+        let uninstalled = self.core.uninstall(handle, guid.uuid(), value);
+        self.return_status(Reply::UninstallProtocolInterface(uninstalled))
     }
 
     /// ReinstallProtocolInterface.
@@ -51,10 +52,10 @@ impl<A: Allocator + Copy> EfiCore<A> {
         if !self.begin() {
             return ABORTED;
         }
-        let reply = self
+        let reinstalled = self
             .core
             .reinstall(handle, guid.uuid(), old_value, new_value);
-        self.return_status(reply)
+        self.return_status(Reply::ReinstallProtocolInterface(reinstalled))
     }
 
     /// RegisterProtocolNotify. The variable `key` receives the registration's key.
@@ -90,11 +91,14 @@ impl<A: Allocator + Copy> EfiCore<A> {
     pub fn locate_protocol(&mut self, guid: &Guid, key: u64, value: &mut u64) -> u64
         ensures { LocatesProtocol self.old guid.now key value.old result value.new self.new }
     {
+        let guid = guid.uuid();
+        if self.records {
+            return self.answer_number(&Call::LocateProtocol { guid, key }, value);
+        }
         if !self.begin() {
             return ABORTED;
         }
-        let reply = self.core.locate_protocol(guid.uuid(), key);
-        self.return_number(reply, value)
+        return_value(self.core.locate_protocol(guid, key), value)
     }
 
     /// OpenProtocol. The variable `value` receives the interface's value, but by TEST_PROTOCOL.
@@ -110,26 +114,44 @@ impl<A: Allocator + Copy> EfiCore<A> {
         ensures { Opens self.old handle guid.now agent controller attributes value.old result
             value.new self.new }
     {
+        let guid = guid.uuid();
+        if self.records {
+            let call = Call::OpenProtocol {
+                handle,
+                guid,
+                agent,
+                controller,
+                attributes,
+            };
+            return self.answer_number(&call, value);
+        }
         if !self.begin() {
             return ABORTED;
         }
-        let reply = self
+        let opened = self
             .core
-            .open_protocol(handle, guid.uuid(), agent, controller, attributes);
-        self.return_number(reply, value)
+            .open_protocol(handle, guid, agent, controller, attributes);
+        return_opened(opened, value)
     }
 
     /// CloseProtocol.
     pub fn close_protocol(&mut self, handle: u64, guid: &Guid, agent: u64, controller: u64) -> u64
         ensures { Closes self.old handle guid.now agent controller result self.new }
     {
+        let guid = guid.uuid();
+        if self.records {
+            return self.answer_status(&Call::CloseProtocol {
+                handle,
+                guid,
+                agent,
+                controller,
+            });
+        }
         if !self.begin() {
             return ABORTED;
         }
-        let reply = self
-            .core
-            .close_protocol(handle, guid.uuid(), agent, controller);
-        self.return_status(reply)
+        let closed = self.core.close_protocol(handle, guid, agent, controller);
+        returned_status(&closed).number()
     }
 
     /// OpenProtocolInformation. The variables receive how many open items there are, and the address of their block of
@@ -156,11 +178,14 @@ impl<A: Allocator + Copy> EfiCore<A> {
     pub fn handle_protocol(&mut self, handle: u64, guid: &Guid, value: &mut u64) -> u64
         ensures { HandlesProtocol self.old handle guid.now value.old result value.new self.new }
     {
+        let guid = guid.uuid();
+        if self.records {
+            return self.answer_number(&Call::HandleProtocol { handle, guid }, value);
+        }
         if !self.begin() {
             return ABORTED;
         }
-        let reply = self.core.handle_protocol(handle, guid.uuid());
-        self.return_number(reply, value)
+        return_value(self.core.handle_protocol(handle, guid), value)
     }
 
     /// DisconnectController.
@@ -170,8 +195,8 @@ impl<A: Allocator + Copy> EfiCore<A> {
         if !self.begin() {
             return ABORTED;
         }
-        let reply = self.core.disconnect_controller(handle, driver);
-        self.return_status(reply)
+        let disconnected = self.core.disconnect_controller(handle, driver);
+        self.return_status(Reply::DisconnectController(disconnected))
     }
 
     /// LocateDevicePath. The variable `path` has the path's address in the pool, and receives the address behind the

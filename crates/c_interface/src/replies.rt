@@ -1,15 +1,18 @@
 //! What replies carry.
 ghost use Rattle.std.specs.Prelude.{◌≡◌};
 ghost use Rattle.page_ranges.specs.Statuses.{status_number};
-ghost use Rattle.c_interface.specs.Replies.{returned_status, status_in, number_in, numbers_in, events_in};
+ghost use Rattle.boot_replies.specs.declared.replies.Reply.TheVariants as reply;
+ghost use Rattle.c_interface.specs.Replies.{events_in, number_in, numbers_in, opened_or, returned_or, returned_status, status_in, value_or};
 
 use boot_core::Reply;
 use page_ranges::Status;
+use page_services::Placed;
+use placement_certificate::Certificate;
 use std::alloc::Allocator;
 
 /// The status of a result.
 #[inline(always)]
-fn returned_status<R>(returned: &Result<R, Status>) -> Status
+pub(crate) fn returned_status<R>(returned: &Result<R, Status>) -> Status
     ensures { result ≡ returned_status returned.now }
 {
     match returned {
@@ -70,11 +73,73 @@ pub(crate) fn number_in<A: Allocator>(reply: &Reply<A>) -> Option<u64>
     }
 }
 
-/// The number of the status of a reply.
-pub(crate) fn status_number_in<A: Allocator>(reply: &Reply<A>) -> u64
-    ensures { result ≡ status_number (status_in reply.now) }
+/// The status of a result as a number of EFI_STATUS; the number that it has is put in the caller's variable.
+#[inline(always)]
+pub(crate) fn return_value(returned: Result<u64, Status>, place: &mut u64) -> u64
+    ensures status { result ≡ status_number (returned_status returned) }
+    ensures value { place.new ≡ value_or place.old returned }
 {
-    status_in(reply).number()
+    match returned {
+        Ok(value) => {
+            *place = value;
+            Status::Success.number()
+        }
+        Err(status) => status.number(),
+    }
+}
+
+/// The same of OpenProtocol, which has no number for TEST_PROTOCOL.
+#[inline(always)]
+pub(crate) fn return_opened(returned: Result<Option<u64>, Status>, place: &mut u64) -> u64
+    ensures status { result ≡ status_number (returned_status returned) }
+    ensures value { place.new ≡ opened_or place.old returned }
+{
+    match returned {
+        Ok(Some(value)) => {
+            *place = value;
+            Status::Success.number()
+        }
+        Ok(None) => Status::Success.number(),
+        Err(status) => status.number(),
+    }
+}
+
+/// The same of AllocatePages, whose number is an address.
+#[inline(always)]
+pub(crate) fn return_pages<A: Allocator>(
+    returned: Result<Placed<A>, Status>,
+    place: &mut u64,
+) -> u64
+    ensures status { result ≡ status_number (returned_status returned) }
+    ensures value { place.new
+        ≡ returned_or place.old (number_in (reply.AllocatePages returned)) }
+{
+    match returned {
+        Ok(placed) => {
+            *place = placed.address;
+            Status::Success.number()
+        }
+        Err(status) => status.number(),
+    }
+}
+
+/// The same of AllocatePool.
+#[inline(always)]
+pub(crate) fn return_block<A: Allocator>(
+    returned: Result<(u64, Option<Certificate<A>>), Status>,
+    place: &mut u64,
+) -> u64
+    ensures status { result ≡ status_number (returned_status returned) }
+    ensures value { place.new
+        ≡ returned_or place.old (number_in (reply.AllocatePool returned)) }
+{
+    match returned {
+        Ok((address, _certificate)) => {
+            *place = address;
+            Status::Success.number()
+        }
+        Err(status) => status.number(),
+    }
 }
 
 /// The two numbers that a reply carries: how many items are in a block of the pool, and its address; or

@@ -2,6 +2,7 @@
 ghost use Rattle.c_interface.specs.ReplyLines.{Joins, PrintsLast, PrintsReply, ReturnsReply};
 
 use crate::efi_core::{EfiCore, LastBlock};
+use crate::last_call::LastCall;
 use boot_core::{Call, Reply};
 use reply_texts::print_call;
 use std::alloc::Allocator;
@@ -10,7 +11,7 @@ impl<A: Allocator + Copy> EfiCore<A> {
     /// What `bootcore` prints of the last call where its line has this number: the lines of its reply, and the
     /// block of its certificate. It is put in the front of a buffer, and the number of its bytes into a variable.
     ///
-    /// NOT_FOUND: the last call left no reply. OUT_OF_RESOURCES: memory ran out. BUFFER_TOO_SMALL: the variable
+    /// NOT_FOUND: the last call left no reply, as none does where replies are not recorded. OUT_OF_RESOURCES: memory ran out. BUFFER_TOO_SMALL: the variable
     /// receives the number of bytes needed.
     pub fn reply_line(&self, number: u64, buffer: &mut [u8], size: &mut u64) -> u64
         ensures { ReturnsReply self.now number buffer.old size.old result buffer.new size.new }
@@ -21,14 +22,11 @@ impl<A: Allocator + Copy> EfiCore<A> {
 
     // What is printed of the last call.
     fn printed(&self, number: u64) -> LastBlock<A>
-        ensures { PrintsLast number self.now.last self.now.block result }
+        ensures { PrintsLast number self.now.last.reply self.now.block result }
     {
-        if let Some(brief) = self.last.brief {
-            return print_last(self.alloc, number, &brief.reply(), &self.block);
-        }
-        match &self.last.other {
-            Some(reply) => print_last(self.alloc, number, reply, &self.block),
-            None => LastBlock::Nothing,
+        match &self.last {
+            LastCall::Reply(reply) => print_last(self.alloc, number, reply, &self.block),
+            LastCall::Events(_) | LastCall::Nothing => LastBlock::Nothing,
         }
     }
 }

@@ -169,8 +169,8 @@ pub fn run_files<M: Read + Drop, T: Read + Drop, W: Write>(
     let Ok(mut core) = Core::new(alloc, file.machine, file.drivers) else {
         return Err(Fault::OutOfMemory);
     };
-    core.certify(certify);
-    let Ok(()) = core.prepare(PREPARED_PLACEMENTS) else {
+    core.services.certify(certify);
+    let Ok(()) = core.services.prepare(PREPARED_PLACEMENTS) else {
         return Err(Fault::OutOfMemory);
     };
     match boot_trace::run(alloc, &mut core, trace, out, certify) {

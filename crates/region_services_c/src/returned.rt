@@ -3,7 +3,7 @@ ghost use Rattle.std.specs.Prelude.{◌≡◌, length};
 ghost use Rattle.page_ranges.specs.MemoryMap.{memory_map};
 ghost use Rattle.c_interface.specs.Buffers.{front_filled};
 ghost use Rattle.c_interface.specs.Checks.{ReturnsEntry};
-ghost use Rattle.c_interface.specs.EfiCores.{certifying_core, last_events};
+ghost use Rattle.c_interface.specs.EfiCores.{certifying_core, recording_core};
 ghost use Rattle.c_interface.specs.Items.{map_entry};
 ghost use Rattle.c_interface.specs.ReplyLines.{ReturnsReply};
 ghost use Rattle.c_interface.specs.Served.{ReturnsBlock};
@@ -28,6 +28,14 @@ pub extern "C" fn RafkudinCertify(core: &mut Rafkudin, certify: bool)
     core.held().certify(certify);
 }
 
+/// Keeps the reply of each service from now on, of which `RafkudinReplyLine` tells, or keeps none, as at first.
+#[unsafe(no_mangle)]
+pub extern "C" fn RafkudinRecord(core: &mut Rafkudin, record: bool)
+    ensures { core.new.core ≡ recording_core record core.old.core }
+{
+    core.held().record(record);
+}
+
 /// The block of the certificate of the last service that was called, in the front of `text`; the variable `length`
 /// receives its number of bytes.
 ///
@@ -45,7 +53,7 @@ pub extern "C" fn RafkudinCertificate(core: &mut Rafkudin, text: &mut [u8], leng
 /// What the program `bootcore` prints of the last service that was called, where the service's line has this number, in
 /// the front of `text`; the variable `length` receives its number of bytes.
 ///
-/// NOT_FOUND: it left no reply. BUFFER_TOO_SMALL: the variable receives the number of bytes needed. OUT_OF_RESOURCES:
+/// NOT_FOUND: it left no reply, as none does where replies are not kept. BUFFER_TOO_SMALL: the variable receives the number of bytes needed. OUT_OF_RESOURCES:
 /// memory ran out.
 #[unsafe(no_mangle)]
 pub extern "C" fn RafkudinReplyLine(
@@ -65,8 +73,8 @@ pub extern "C" fn RafkudinReplyLine(
 /// has room for.
 #[unsafe(no_mangle)]
 pub extern "C" fn RafkudinEvents(core: &mut Rafkudin, events: &mut [u64]) -> usize
-    ensures count { result ≡ length (last_events core.old.core) }
-    ensures events { events.new ≡ front_filled (last_events core.old.core) events.old }
+    ensures count { result ≡ length (core.old.core.last.events) }
+    ensures events { events.new ≡ front_filled (core.old.core.last.events) events.old }
     ensures kept { core.new.core ≡ core.old.core }
 {
     core.held().events(events)

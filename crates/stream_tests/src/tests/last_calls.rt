@@ -40,7 +40,7 @@ fn ended(
     let mut core = core_on(rt, &heap);
     assert!(rt; core.calls_left() == CALLS);
     assert!(rt; calls <= core.calls_left());
-    core.leave_calls(calls);
+    core.services.leave_calls(calls);
     let lines = front_of(rt, count);
     let (end, text) = run_on(&heap, &mut core, lines.as_str());
     assert!(rt; core.calls_left() == 0);

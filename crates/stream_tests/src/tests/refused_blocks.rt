@@ -1,6 +1,6 @@
 //! A block of the pool that needs new pages, while memory is refused.
 use super::heaps::core_on;
-use boot_core::Core;
+use boot_core::Services;
 use driver_connect::TableDriver;
 use page_ranges::Status;
 use refusing_memory::Refusing;
@@ -20,7 +20,7 @@ const ENTRIES_WITH_BLOCK: usize = 5;
 fn is_placed(
     rt: &impl Abort,
     heap: &Refusing<Global>,
-    core: &mut Core<TableDriver, &Refusing<Global>>,
+    core: &mut Services<TableDriver, &Refusing<Global>>,
 ) -> bool {
     assert!(rt; core.calls_left() > 0);
     match core.allocate_pool(4, 24) {
@@ -41,7 +41,7 @@ fn is_placed_but_for(rt: &(impl AllocGlobal + Abort), number: u64) -> bool {
     let heap = Refusing::new(rt.alloc());
     let mut core = core_on(rt, &heap);
     heap.refuse(number);
-    is_placed(rt, &heap, &mut core)
+    is_placed(rt, &heap, &mut core.services)
 }
 
 #[test]

@@ -1,14 +1,14 @@
 //! Pages and blocks that are freed while all memory is refused.
 use super::heaps::core_on;
-use boot_core::Core;
+use boot_core::Services;
 use driver_connect::TableDriver;
 use page_ranges::{Descriptor, Status};
 use refusing_memory::Refusing;
 use std::alloc::Global;
 use std::process::Abort;
 
-/// A core on memory that can be refused.
-type RefusedCore<'a> = Core<TableDriver, &'a Refusing<Global>>;
+/// The services of a core on memory that can be refused.
+type RefusedCore<'a> = Services<TableDriver, &'a Refusing<Global>>;
 
 /// How much is placed: pages, and blocks of the pool.
 const COUNT: usize = 400;
@@ -143,5 +143,5 @@ fn assert_freed<'a>(
 fn frees_take_no_memory(rt: HostRuntime) {
     let heap = Refusing::new(rt.alloc());
     let mut core = core_on(&rt, &heap);
-    assert_freed(&rt, &heap, &mut core);
+    assert_freed(&rt, &heap, &mut core.services);
 }

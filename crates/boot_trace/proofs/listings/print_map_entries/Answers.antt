@@ -5,7 +5,7 @@ use Rattle.page_ranges.proofs.Blocks.{entry_within}
 use Rattle.boot_trace.proofs.listings.print_map_entries.Goals as goal
 
 pub print_descriptor-requires : goal.print_descriptor-requires
-print_descriptor-requires g c = entry_within c.args.core.now.state.parts.book.memory c.map_entries-entry-items.ensures.proper c.loop-entry.yielded c.in-Some.entry c.next.new.self
+print_descriptor-requires g c = entry_within c.args.services.now.state.parts.book.memory c.map_entries-entry-items.ensures.proper c.loop-entry.yielded c.in-Some.entry c.next.new.self
     (ap (λ (ds : List Descriptor). c.loop-entry.yielded ++ ds) (sym c.in-Some.ensures.steps) ∙ c.loop-entry.invariant.left)
 
 pub loop-entry-preserved : goal.loop-entry-preserved

@@ -7,7 +7,7 @@ pub returns-in-Ok-print_call-clause-ok : goal.returns-in-Ok-print_call-clause-ok
 returns-in-Ok-print_call-clause-ok g c = (
   c.call-reply.result,
   c.call-reply.ensures.step,
-  prints_call c.args.certify c.args.number c.args.core.now.state.parts.book c.args.call.now c.call-reply.result (string_bytes c.args.text.now) (string_bytes c.print_call.new.text) _ c.in-Ok-print_call.ensures.0 c.in-Ok-print_call.ensures.1 c.requires c.in-Ok.ensures (rw c.granule-granule.ensures at c.in-Ok-print_call.ensures.2),
+  prints_call c.args.certify c.args.number c.args.services.now.state.parts.book c.args.call.now c.call-reply.result (string_bytes c.args.text.now) (string_bytes c.print_call.new.text) _ c.in-Ok-print_call.ensures.0 c.in-Ok-print_call.ensures.1 c.requires c.in-Ok.ensures (rw c.granule-granule.ensures at c.in-Ok-print_call.ensures.2),
 )
 
 pub returns-clause-err : goal.returns-clause-err

@@ -1,4 +1,0 @@
-use Rattle.boot_core.proofs.core_state.Core.stops_on_interface.Goals as goal
-
-pub returns : goal.returns
-returns g c = rw (← c.self.view_is) c.stops_on_interface.ensures

@@ -1,0 +1,4 @@
+use Rattle.boot_core.proofs.services.Services.stops_on_controller.Goals as goal
+
+pub returns : goal.returns
+returns g c = rw (← c.self.view_is) c.stops_on_controller.ensures
