@@ -1,5 +1,5 @@
 -- The lists of the protocol services are proper along runs.
-use Rattle.std.proofs.Common.{ℕ, Bool, List, [], ◌∷◌, refl, sym, subst, arith}
+use Rattle.std.proofs.Common.{ℕ, Bool, List, [], ◌∷◌, sym, subst, arith}
 use Rattle.driver_connect.specs.Drivers.{Meaning}
 use Rattle.protocol_services.specs.Lists.{Lists, no_lists}
 use Rattle.protocol_services.specs.ProperLists.{AreProperLists}

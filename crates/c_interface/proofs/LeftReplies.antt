@@ -15,12 +15,12 @@ use Rattle.c_interface.specs.Served.{Makes, Serves, ServesLeaving}
 -- a call without a certificate, of which this is left
 pub call_left : {A : Type 0} (old begun new : EfiCoreValue A) (core : CoreValue TableDriver) (asked : Call A) (answer : Reply A) (left : Left A) → begun ≡ forgotten old
     → LeavesBlock {A = A} old.certifies (kept_map old.certifies old.core.state asked) (certified old.core.state.parts.book.granule asked answer) block.Nothing
-    → Step (meanings begun) begun.core.state asked answer core.state → core.given ≡ begun.core.given → new.core ≡ core → new.certifies ≡ begun.certifies → new.records ≡ begun.records → new.block ≡ begun.block → new.last ≡ left → ServesLeaving old asked answer left new
-call_left {A = A} old begun new core asked answer left e none step given is_core is_certifies is_records is_block is_last = record {
+    → Step (meanings begun) begun.core.state asked answer core.state → core.given ≡ begun.core.given → new.core ≡ core → new.certifies ≡ begun.certifies → new.keeps_replies ≡ begun.keeps_replies → new.block ≡ begun.block → new.last ≡ left → ServesLeaving old asked answer left new
+call_left {A = A} old begun new core asked answer left e none step given is_core is_certifies is_keeps is_block is_last = record {
   step = rw is_core (rw e at step);
   given = rw is_core (rw e at given);
   certifies = is_certifies ∙ ap (λ (x : EfiCoreValue A). x.certifies) e;
-  records = is_records ∙ ap (λ (x : EfiCoreValue A). x.records) e;
+  keeps_replies = is_keeps ∙ ap (λ (x : EfiCoreValue A). x.keeps_replies) e;
   block = rw (is_block, e) none;
   last = is_last;
 }
@@ -30,19 +30,19 @@ pub reply_left : {A : Type 0} (old begun new : EfiCoreValue A) (core : CoreValue
     → LeavesBlock {A = A} old.certifies (kept_map old.certifies old.core.state asked) (certified old.core.state.parts.book.granule asked answer) block.Nothing
     → Step (meanings begun) begun.core.state asked answer core.state → core.given ≡ begun.core.given → new ≡ with_reply (with_core begun core) answer → Serves old asked answer new
 reply_left {A = A} old begun new core asked answer e none step given n =
-    call_left old begun new core asked answer _ e none step given (ap (λ (x : EfiCoreValue A). x.core) n) (ap (λ (x : EfiCoreValue A). x.certifies) n) (ap (λ (x : EfiCoreValue A). x.records) n) (ap (λ (x : EfiCoreValue A). x.block) n)
-    (ap (λ (x : EfiCoreValue A). x.last) n ∙ ap (λ (x : EfiCoreValue A). left_of x.records answer) e)
+    call_left old begun new core asked answer _ e none step given (ap (λ (x : EfiCoreValue A). x.core) n) (ap (λ (x : EfiCoreValue A). x.certifies) n) (ap (λ (x : EfiCoreValue A). x.keeps_replies) n) (ap (λ (x : EfiCoreValue A). x.block) n)
+    (ap (λ (x : EfiCoreValue A). x.last) n ∙ ap (λ (x : EfiCoreValue A). left_of x.keeps_replies answer) e)
 
-none_left : {A : Type 0} (records : Bool) (answer : Reply A) → records ≡ false → events_in answer ≡ [] → nothing_left ≡ left_of records answer
-none_left records answer r e = rw (r, e) refl
+none_left : {A : Type 0} (keeps : Bool) (answer : Reply A) → keeps ≡ false → events_in answer ≡ [] → nothing_left ≡ left_of keeps answer
+none_left keeps answer r e = rw (r, e) refl
 
--- nothing, where replies are not recorded and the call signals no events
+-- nothing, where replies are not kept and the call signals no events
 pub nothing_kept : {A : Type 0} (old begun new : EfiCoreValue A) (core : CoreValue TableDriver) (asked : Call A) (answer : Reply A) → begun ≡ forgotten old
     → LeavesBlock {A = A} old.certifies (kept_map old.certifies old.core.state asked) (certified old.core.state.parts.book.granule asked answer) block.Nothing
-    → Step (meanings begun) begun.core.state asked answer core.state → core.given ≡ begun.core.given → old.records ≡ false → events_in answer ≡ [] → new ≡ with_core begun core → Serves old asked answer new
-nothing_kept {A = A} old begun new core asked answer e none step given records events n =
-    call_left old begun new core asked answer _ e none step given (ap (λ (x : EfiCoreValue A). x.core) n) (ap (λ (x : EfiCoreValue A). x.certifies) n) (ap (λ (x : EfiCoreValue A). x.records) n) (ap (λ (x : EfiCoreValue A). x.block) n)
-    (ap (λ (x : EfiCoreValue A). x.last) n ∙ ap (λ (x : EfiCoreValue A). x.last) e ∙ none_left old.records answer records events)
+    → Step (meanings begun) begun.core.state asked answer core.state → core.given ≡ begun.core.given → old.keeps_replies ≡ false → events_in answer ≡ [] → new ≡ with_core begun core → Serves old asked answer new
+nothing_kept {A = A} old begun new core asked answer e none step given keeps events n =
+    call_left old begun new core asked answer _ e none step given (ap (λ (x : EfiCoreValue A). x.core) n) (ap (λ (x : EfiCoreValue A). x.certifies) n) (ap (λ (x : EfiCoreValue A). x.keeps_replies) n) (ap (λ (x : EfiCoreValue A). x.block) n)
+    (ap (λ (x : EfiCoreValue A). x.last) n ∙ ap (λ (x : EfiCoreValue A). x.last) e ∙ none_left old.keeps_replies answer keeps events)
 
 -- the reply to a call that was made
 pub made_left : {A : Type 0} (old made new : EfiCoreValue A) (asked : Call A) (answer : Reply A) → Makes old asked answer made → new ≡ with_reply made answer → Serves old asked answer new
@@ -50,7 +50,7 @@ made_left {A = A} old made new asked answer m n = record {
   step = rw n m.step;
   given = rw n m.given;
   certifies = rw n m.certifies;
-  records = rw n m.records;
+  keeps_replies = rw n m.keeps_replies;
   block = rw n m.block;
-  last = rw n (ap (λ (records : Bool). left_of records answer) m.records);
+  last = rw n (ap (λ (keeps : Bool). left_of keeps answer) m.keeps_replies);
 }

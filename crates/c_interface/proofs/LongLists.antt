@@ -27,6 +27,7 @@ answers_for_more {A = A} old new handle ps qs before status after p q (inl (answ
         step = step_for_more (meanings old) old.core.state new.core.state handle ps qs answer p q s.step;
         given = s.given;
         certifies = s.certifies;
+        keeps_replies = s.keeps_replies;
         block = rw (← no_map A old.certifies _ _ handle ps qs) s.block;
         last = s.last;
       },

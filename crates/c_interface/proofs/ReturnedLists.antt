@@ -1,36 +1,14 @@
 -- Values that are front_filled into a buffer one after another, and what is returned of handles.
-use Rattle.std.proofs.Common.{◌≡◌, ℕ, zero, suc, ◌<◌, ◌+◌, ◌==◌, nat_lt, List, [], ◌∷◌, ◌++◌, length, take, drop, map, get_or, slice_index_or, slice_set, Some, None, refl, sym, ap, subst, ◌∙◌, arith, inl, inr, Bool, true, false, nat_le, leb-true, leb-false, min}
+use Rattle.std.proofs.Common.{◌≡◌, ℕ, zero, suc, ◌<◌, ◌+◌, ◌==◌, nat_lt, List, [], ◌∷◌, ◌++◌, length, take, drop, map, get_or, slice_index_or, slice_set, refl, sym, ap, subst, ◌∙◌, arith, Bool, true, false, nat_le, leb-true, leb-false, min}
 use Rattle.std.proofs.Math.Nat.{min-eq_left, min-eq_right}
 use Rattle.std.proofs.Math.ListN.{drop_of_length-le}
-use Rattle.boot_calls.specs.declared.calls.Call.{Call}
-use Rattle.boot_replies.specs.declared.replies.Reply.{Reply}
-use Rattle.boot_replies.specs.declared.replies.Reply.TheVariants as reply
-use Rattle.boot_calls.specs.declared.replies.LocateReply.{LocateReply}
 use Rattle.c_interface.specs.Buffers.{front_filled}
-use Rattle.c_interface.specs.EfiCores.{EfiCoreValue}
-use Rattle.c_interface.specs.Replies.{returned_or}
 use Rattle.c_machines.specs.declared.guids.Guid.{Guid}
 use Rattle.c_machines.specs.declared.guids.Interface.{Interface}
 use Rattle.std.proofs.lemmas.Bool.{eqb-true, lt-ltb}
 use Rattle.std.proofs.lemmas.List.{get_or-map, length-map, map-append, take_all}
 use Rattle.std.proofs.Math.Seq.{take-suc}
 use Rattle.c_machines.specs.Guids.{standard_guid, interface_in}
-use Rattle.c_interface.specs.Served.{AnswersStatus, AnswersGuids, AnswersHandles, ReturnsGuids, ReturnsHandles, returned_size}
-
-some_is : {A : Type 0} (x y : A) → Some x ≡ Some y → x ≡ y
-some_is x y e = cc
-
-pub handles_returned : {A : Type 0} (old new : EfiCoreValue A) (c : Call A) (status : ℕ) (returned : LocateReply A) (size new_size : ℕ) (buffer new_buffer : List ℕ) → AnswersStatus old c status new → new.last ≡ Some (reply.LocateHandle returned) →
-    new_size ≡ returned_or size (returned_size returned.status returned.size) → new_buffer ≡ front_filled returned.handles.items buffer → AnswersHandles old c size buffer status new_size new_buffer new
-handles_returned old new c status returned size new_size buffer new_buffer (inl (answer, s, e, u)) l is_size is_buffer =
-    inl (answer, s, e, subst (ReturnsHandles size buffer new_size new_buffer) (some_is _ _ (sym l ∙ s.last)) (is_size, is_buffer))
-handles_returned {A = A} old new c status returned size new_size buffer new_buffer (inr (spent, e, u)) l is_size is_buffer =
-    absurd (let bad : None ≡ Some (reply.LocateHandle returned) = sym (ap (λ (x : EfiCoreValue A). x.last) spent.core) ∙ l in cc)
-
-pub guids_returned : {A : Type 0} (old new : EfiCoreValue A) (c : Call A) (before : ℕ) (returned : Reply A) (count : ℕ) (buffer : List Guid) (status new_count : ℕ) (new_buffer : List Guid) → AnswersStatus old c before new → new.last ≡ Some returned →
-    ReturnsGuids count buffer status new_count new_buffer returned → AnswersGuids old c count buffer status new_count new_buffer new
-guids_returned old new c before returned count buffer status new_count new_buffer (inl (answer, s, e, u)) l is = inl (answer, s, subst (ReturnsGuids count buffer status new_count new_buffer) (some_is _ _ (sym l ∙ s.last)) is)
-guids_returned {A = A} old new c before returned count buffer status new_count new_buffer (inr (spent, e, u)) l is = absurd (let bad : None ≡ Some returned = sym (ap (λ (x : EfiCoreValue A). x.last) spent.core) ∙ l in cc)
 
 pub laid_more : {T : Type 0} (i : ℕ) (xs ys : List T) (x : T) → i < length xs → i < length ys → slice_index_or xs i x ≡ x → slice_set (take i xs ++ drop i ys) i x ≡ take (suc i) xs ++ drop (suc i) ys
 laid_more i [] ys x a b e = absurd (omega arith)

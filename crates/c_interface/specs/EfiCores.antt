@@ -1,5 +1,5 @@
 -- A core as a caller in C has it.
-use Rattle.std.specs.Prelude.{◌≡◌, ℕ, Bool, true, false, List, map, Option, Some, None, option_map, Result, MatchResult, Vec}
+use Rattle.std.specs.Prelude.{◌≡◌, ℕ, Bool, true, false, List, map, Option, Some, option_map, Result, MatchResult, Vec}
 use Rattle.std.specs.declared.alloc.AllocError.{AllocError}
 use Rattle.std.specs.List.{list_all}
 use Rattle.page_ranges.specs.declared.ranges.Descriptor.{Descriptor}
@@ -15,11 +15,11 @@ use Rattle.c_interface.specs.declared.efi_core.LastBlock.TheVariants as block
 use Rattle.c_interface.specs.LastCalls.{Left, left_of, nothing_left}
 
 -- the core, whether the certificates of its placements are kept as blocks of text and whether
--- replies are recorded, and what the last call left to be asked for, with its block
+-- replies are kept, and what the last call left to be asked for, with its block
 pub record EfiCoreValue (A : Type 0) : Type 0 where
   pub core : CoreValue TableDriver
   pub certifies : Bool
-  pub records : Bool
+  pub keeps_replies : Bool
   pub last : Left A
   pub block : LastBlock A
 
@@ -28,7 +28,7 @@ abbrev pub unused_core : {A : Type 0} → CoreValue TableDriver → EfiCoreValue
 unused_core core = record {
   core = core;
   certifies = false;
-  records = false;
+  keeps_replies = false;
   last = nothing_left;
   block = block.Nothing;
 }
@@ -38,7 +38,7 @@ abbrev pub with_core : {A : Type 0} → EfiCoreValue A → CoreValue TableDriver
 with_core c core = record {
   core = core;
   certifies = c.certifies;
-  records = c.records;
+  keeps_replies = c.keeps_replies;
   last = c.last;
   block = c.block;
 }
@@ -49,17 +49,17 @@ abbrev pub certifying_core : {A : Type 0} → Bool → EfiCoreValue A → EfiCor
 certifying_core certifies c = record {
   core = record { state = certifying_state certifies c.core.state; given = c.core.given };
   certifies = certifies;
-  records = c.records;
+  keeps_replies = c.keeps_replies;
   last = c.last;
   block = c.block;
 }
 
 -- the same core, which from now on records replies, or records none
 abbrev pub recording_core : {A : Type 0} → Bool → EfiCoreValue A → EfiCoreValue A
-recording_core records c = record {
+recording_core keeps_replies c = record {
   core = c.core;
   certifies = c.certifies;
-  records = records;
+  keeps_replies = keeps_replies;
   last = c.last;
   block = c.block;
 }
@@ -75,8 +75,8 @@ abbrev pub with_reply : {A : Type 0} → EfiCoreValue A → Reply A → EfiCoreV
 with_reply c answer = record {
   core = c.core;
   certifies = c.certifies;
-  records = c.records;
-  last = left_of c.records answer;
+  keeps_replies = c.keeps_replies;
+  last = left_of c.keeps_replies answer;
   block = c.block;
 }
 
@@ -120,7 +120,7 @@ abbrev pub forgotten : {A : Type 0} → EfiCoreValue A → EfiCoreValue A
 forgotten c = record {
   core = c.core;
   certifies = c.certifies;
-  records = c.records;
+  keeps_replies = c.keeps_replies;
   last = nothing_left;
   block = block.Nothing;
 }

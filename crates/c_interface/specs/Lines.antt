@@ -27,7 +27,7 @@ StatusOfFault fault status left = (status ≡ status_number OutOfResources) × (
 pub record KeepsCore {A : Type 0} (old new : EfiCoreValue A) : Type 0 where
   pub given : new.core.given ≡ old.core.given
   pub certifies : new.certifies ≡ old.certifies
-  pub records : new.records ≡ old.records
+  pub keeps_replies : new.keeps_replies ≡ old.keeps_replies
   pub last : new.last ≡ nothing_left
 
 -- SUCCESS, and what is printed of the line is left; or the line stopped, and the status says why.

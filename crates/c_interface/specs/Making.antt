@@ -1,5 +1,5 @@
 -- What a core is made of that a caller in C asks for.
-use Rattle.std.specs.Prelude.{◌≡◌, ◌⊎◌, ℕ, true, false, List, map, None, Some, Result, Ok, Err}
+use Rattle.std.specs.Prelude.{◌≡◌, ◌⊎◌, ℕ, true, false, List, map, Some, Result, Ok, Err}
 use Rattle.page_ranges.specs.Statuses.{status_number}
 use Rattle.page_ranges.specs.declared.statuses.Status.TheVariants.{InvalidParameter, OutOfResources}
 use Rattle.raw_pool.specs.declared.pages.numbered.PoolMemory.{PoolMemory}
@@ -29,7 +29,7 @@ pub record IsMadeCore {A : Type 0} (size : ℕ) (records : List ℕ) (granule : 
   pub are_tables : are_tables tables ≡ true
   pub drivers : map returned c.core.given.drivers ≡ map driver_in tables
   pub certifies : c.certifies ≡ false
-  pub records : c.records ≡ false
+  pub keeps_replies : c.keeps_replies ≡ false
   pub last : c.last ≡ nothing_left
   pub block : c.block ≡ block.Nothing
 

@@ -8,11 +8,10 @@ use Rattle.device_path_locate.specs.Locating.{device_path_guid}
 use Rattle.boot_calls.specs.declared.calls.Call.{Call}
 use Rattle.boot_calls.specs.declared.calls.Call.TheVariants as call
 use Rattle.boot_replies.specs.declared.replies.Reply.{Reply}
-use Rattle.boot_core.specs.Machines.{CoreValue, State}
+use Rattle.boot_core.specs.Machines.{State}
 use Rattle.boot_core.specs.PathSteps.{LocateStep}
 use Rattle.boot_core.specs.Steps.{Step}
 use Rattle.driver_connect.specs.Drivers.{Meaning}
-use Rattle.driver_connect.specs.declared.table.TableDriver.{TableDriver}
 use Rattle.c_interface.specs.EfiCores.{EfiCoreValue, forgotten, meanings}
 use Rattle.c_interface.specs.LastCalls.{left_of}
 use Rattle.c_interface.specs.Replies.{number_in, returned_status, status_in}
@@ -49,8 +48,8 @@ pub record IsLeft {A : Type 0} (old : EfiCoreValue A) (reply : Reply A) (new : E
     : Type 0 where
   pub given : new.core.given ≡ old.core.given
   pub certifies : new.certifies ≡ old.certifies
-  pub records : new.records ≡ old.records
-  pub last : new.last ≡ left_of old.records reply
+  pub keeps_replies : new.keeps_replies ≡ old.keeps_replies
+  pub last : new.last ≡ left_of old.keeps_replies reply
   pub block : new.block ≡ old.block
 
 -- the calls that write a path to a block of the pool, and install the block's address as the device

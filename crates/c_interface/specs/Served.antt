@@ -33,14 +33,14 @@ pub record ServesLeaving {A : Type 0} (old : EfiCoreValue A) (c : Call A) (answe
   pub step : Step (meanings old) old.core.state c answer new.core.state
   pub given : new.core.given ≡ old.core.given
   pub certifies : new.certifies ≡ old.certifies
-  pub records : new.records ≡ old.records
+  pub keeps_replies : new.keeps_replies ≡ old.keeps_replies
   pub block : LeavesBlock old.certifies (kept_map old.certifies old.core.state c)
       (certified old.core.state.parts.book.granule c answer) new.block
   pub last : new.last ≡ left
 
--- A call is served: its events are left to be asked for, and its reply where replies are recorded.
+-- A call is served: its events are left to be asked for, and its reply where replies are kept.
 abbrev pub Serves : {A : Type 0} → EfiCoreValue A → Call A → Reply A → EfiCoreValue A → Type 0
-Serves old c answer new = ServesLeaving old c answer (left_of old.records answer) new
+Serves old c answer new = ServesLeaving old c answer (left_of old.keeps_replies answer) new
 
 -- A call is made, and its reply is not left yet.
 abbrev pub Makes : {A : Type 0} → EfiCoreValue A → Call A → Reply A → EfiCoreValue A → Type 0
@@ -163,7 +163,7 @@ returned_places returned status before = before
 pub record LeavesNothing {A : Type 0} (old new : EfiCoreValue A) : Type 0 where
   pub given : new.core.given ≡ old.core.given
   pub certifies : new.certifies ≡ old.certifies
-  pub records : new.records ≡ old.records
+  pub keeps_replies : new.keeps_replies ≡ old.keeps_replies
   pub last : new.last ≡ nothing_left
   pub block : new.block ≡ block.Nothing
 

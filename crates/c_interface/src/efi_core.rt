@@ -56,7 +56,7 @@ pub struct EfiCore<A: Allocator = Global> {
     pub(crate) alloc: A,
     pub(crate) core: Services<TableDriver, A>,
     pub(crate) certifies: bool,
-    pub(crate) records: bool,
+    pub(crate) keeps_replies: bool,
     pub(crate) last: LastCall<A>,
     pub(crate) block: LastBlock<A>,
 }
@@ -70,7 +70,7 @@ impl<A: Allocator> Model for EfiCore<A> {
     ghost view = { λ c. record {
       core = c.core;
       certifies = c.certifies;
-      records = c.records;
+      keeps_replies = c.keeps_replies;
       last = left_in c.last;
       block = c.block;
     } };
@@ -85,7 +85,7 @@ impl<A: Allocator + Copy> EfiCore<A> {
             alloc,
             core,
             certifies: false,
-            records: false,
+            keeps_replies: false,
             last: LastCall::Nothing,
             block: LastBlock::Nothing,
         }
@@ -101,10 +101,10 @@ impl<A: Allocator + Copy> EfiCore<A> {
     }
 
     /// Keeps the reply of each call from now on, for `reply_line`, or keeps none.
-    pub fn record(&mut self, records: bool)
-        ensures { self.new ≡ recording_core records self.old }
+    pub fn record(&mut self, keeps: bool)
+        ensures { self.new ≡ recording_core keeps self.old }
     {
-        self.records = records;
+        self.keeps_replies = keeps;
     }
 
     /// Reserves memory for a number of placements of pages and for the frees of what they place. On an `Err` none is
@@ -142,7 +142,7 @@ impl<A: Allocator + Copy> EfiCore<A> {
         ensures core { self.new ≡ with_reply self.old reply }
     {
         let status = status_in(&reply).number();
-        self.last = LastCall::of(self.records, reply);
+        self.last = LastCall::of(self.keeps_replies, reply);
         status
     }
 

@@ -6,7 +6,7 @@ use crate::replies::events_in;
 use boot_core::Reply;
 use std::alloc::Allocator;
 
-/// What is left of the last call: its reply, or where replies are not recorded its events alone.
+/// What is left of the last call: its reply, or where replies are not kept its events alone.
 #[derive(Drop)]
 pub(crate) enum LastCall<A: Allocator> {
     Nothing,
@@ -15,12 +15,12 @@ pub(crate) enum LastCall<A: Allocator> {
 }
 
 impl<A: Allocator> LastCall<A> {
-    /// What is left of a call with this reply, where replies are recorded or not.
+    /// What is left of a call with this reply, where replies are kept or not.
     #[inline(always)]
-    pub(crate) fn of(records: bool, reply: Reply<A>) -> LastCall<A>
-        ensures { left_in result ≡ left_of records reply }
+    pub(crate) fn of(keeps: bool, reply: Reply<A>) -> LastCall<A>
+        ensures { left_in result ≡ left_of keeps reply }
     {
-        if records {
+        if keeps {
             return LastCall::Reply(reply);
         }
         match reply {

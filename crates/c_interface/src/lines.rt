@@ -49,7 +49,7 @@ impl<A: Allocator + Copy> EfiCore<A> {
             ≡ record {
               core = self.old.core;
               certifies = self.old.certifies;
-              records = self.old.records;
+              keeps_replies = self.old.keeps_replies;
               last = self.old.last;
               block = self.new.block;
             } }

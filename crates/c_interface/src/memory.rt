@@ -17,7 +17,7 @@ impl<A: Allocator + Copy> EfiCore<A> {
     pub fn allocate_pages(&mut self, kind: u32, mtype: u32, pages: u64, memory: &mut u64) -> u64
         ensures { AllocatesPages self.old kind mtype pages memory.old result memory.new self.new }
     {
-        if self.certifies || self.records {
+        if self.certifies || self.keeps_replies {
             let call = Call::AllocatePages {
                 kind,
                 mtype,
@@ -37,7 +37,7 @@ impl<A: Allocator + Copy> EfiCore<A> {
     pub fn free_pages(&mut self, memory: u64, pages: u64) -> u64
         ensures { AnswersStatus self.old (call.FreePages memory pages) result self.new }
     {
-        if self.records {
+        if self.keeps_replies {
             return self.answer_status(&Call::FreePages { memory, pages });
         }
         if !self.begin() {
@@ -105,7 +105,7 @@ impl<A: Allocator + Copy> EfiCore<A> {
     pub fn allocate_pool(&mut self, mtype: u32, size: u64, buffer: &mut u64) -> u64
         ensures { AllocatesPool self.old mtype size buffer.old result buffer.new self.new }
     {
-        if self.certifies || self.records {
+        if self.certifies || self.keeps_replies {
             return self.answer_number(&Call::AllocatePool { mtype, size }, buffer);
         }
         if !self.begin() {
@@ -119,7 +119,7 @@ impl<A: Allocator + Copy> EfiCore<A> {
     pub fn free_pool(&mut self, address: u64) -> u64
         ensures { AnswersStatus self.old (call.FreePool address) result self.new }
     {
-        if self.records {
+        if self.keeps_replies {
             return self.answer_status(&Call::FreePool { address });
         }
         if !self.begin() {

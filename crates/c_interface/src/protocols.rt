@@ -92,7 +92,7 @@ impl<A: Allocator + Copy> EfiCore<A> {
         ensures { LocatesProtocol self.old guid.now key value.old result value.new self.new }
     {
         let guid = guid.uuid();
-        if self.records {
+        if self.keeps_replies {
             return self.answer_number(&Call::LocateProtocol { guid, key }, value);
         }
         if !self.begin() {
@@ -115,7 +115,7 @@ impl<A: Allocator + Copy> EfiCore<A> {
             value.new self.new }
     {
         let guid = guid.uuid();
-        if self.records {
+        if self.keeps_replies {
             let call = Call::OpenProtocol {
                 handle,
                 guid,
@@ -139,7 +139,7 @@ impl<A: Allocator + Copy> EfiCore<A> {
         ensures { Closes self.old handle guid.now agent controller result self.new }
     {
         let guid = guid.uuid();
-        if self.records {
+        if self.keeps_replies {
             return self.answer_status(&Call::CloseProtocol {
                 handle,
                 guid,
@@ -179,7 +179,7 @@ impl<A: Allocator + Copy> EfiCore<A> {
         ensures { HandlesProtocol self.old handle guid.now value.old result value.new self.new }
     {
         let guid = guid.uuid();
-        if self.records {
+        if self.keeps_replies {
             return self.answer_number(&Call::HandleProtocol { handle, guid }, value);
         }
         if !self.begin() {

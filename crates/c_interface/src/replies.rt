@@ -112,7 +112,7 @@ pub(crate) fn return_pages<A: Allocator>(
 ) -> u64
     ensures status { result ≡ status_number (returned_status returned) }
     ensures value { place.new
-        ≡ returned_or place.old (number_in (reply.AllocatePages returned)) }
+        ≡ returned_or place.old (number_in {A = A} (reply.AllocatePages returned)) }
 {
     match returned {
         Ok(placed) => {
@@ -131,7 +131,7 @@ pub(crate) fn return_block<A: Allocator>(
 ) -> u64
     ensures status { result ≡ status_number (returned_status returned) }
     ensures value { place.new
-        ≡ returned_or place.old (number_in (reply.AllocatePool returned)) }
+        ≡ returned_or place.old (number_in {A = A} (reply.AllocatePool returned)) }
 {
     match returned {
         Ok((address, _certificate)) => {

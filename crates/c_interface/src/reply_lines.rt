@@ -11,7 +11,7 @@ impl<A: Allocator + Copy> EfiCore<A> {
     /// What `bootcore` prints of the last call where its line has this number: the lines of its reply, and the
     /// block of its certificate. It is put in the front of a buffer, and the number of its bytes into a variable.
     ///
-    /// NOT_FOUND: the last call left no reply, as none does where replies are not recorded. OUT_OF_RESOURCES: memory ran out. BUFFER_TOO_SMALL: the variable
+    /// NOT_FOUND: the last call left no reply, as none does where replies are not kept. OUT_OF_RESOURCES: memory ran out. BUFFER_TOO_SMALL: the variable
     /// receives the number of bytes needed.
     pub fn reply_line(&self, number: u64, buffer: &mut [u8], size: &mut u64) -> u64
         ensures { ReturnsReply self.now number buffer.old size.old result buffer.new size.new }

@@ -1,22 +1,15 @@
-use Rattle.std.proofs.Common.{rules, refl, ap, sym, ◌∙◌, inl, None, Ok, Err}
+use Rattle.std.proofs.Common.{◌∙◌, refl, sym, ap, inl}
 use Rattle.boot_calls.specs.declared.calls.Call.TheVariants as call
 use Rattle.boot_replies.specs.declared.replies.Reply.TheVariants as reply
-use Rattle.guid_handles.proofs.Grouped.{none_of}
-use Rattle.c_interface.proofs.LeftReplies.{brief_left, reply_left}
+use Rattle.c_interface.specs.EfiCores.{EfiCoreValue}
+use Rattle.c_interface.proofs.LeftReplies.{nothing_kept}
 use Rattle.c_interface.proofs.efi_core.EfiCore.allocate_pool.Goals as goal
 
-pub returns-then-is_some : goal.returns-then-is_some
-returns-then-is_some g c =
-    let served = reply_left c.args.self.now _ c.return_known.new.self c.allocate_pool.new.self (call.AllocatePool c.args.mtype c.args.size) (reply.AllocatePool (Ok (c.in-Ok.address, c.in-Ok.certificate))) (c.self-2.view_is ∙ c.begin.ensures.core) (search rules) c.in-Ok.ensures.step c.in-Ok.ensures.given c.return_known.ensures.core in
-    inl (reply.AllocatePool (Ok (c.in-Ok.address, c.in-Ok.certificate)), served, c.return_known.ensures.status, refl)
-
-pub returns-else-is_some : goal.returns-else-is_some
-returns-else-is_some g c =
-    let same = ap (λ k. reply.AllocatePool (Ok (c.in-Ok.address, k))) (sym (none_of c.in-Ok.certificate (sym c.is_some.ensures ∙ c.if-is_some.false))) in
-    let served = brief_left c.args.self.now _ c.return_brief.new.self c.allocate_pool.new.self (call.AllocatePool c.args.mtype c.args.size) (reply.AllocatePool (Ok (c.in-Ok.address, None))) (reply.AllocatePool (Ok (c.in-Ok.address, c.in-Ok.certificate))) (c.self-2.view_is ∙ c.begin.ensures.core) (search rules) c.in-Ok.ensures.step c.in-Ok.ensures.given same c.return_brief.ensures.core in
-    inl (reply.AllocatePool (Ok (c.in-Ok.address, c.in-Ok.certificate)), served, c.return_brief.ensures.status, refl)
-
-pub returns-in-Err : goal.returns-in-Err
-returns-in-Err g c =
-    let served = reply_left c.args.self.now _ c.return_brief-in-Err.new.self c.allocate_pool.new.self (call.AllocatePool c.args.mtype c.args.size) (reply.AllocatePool (Err c.in-Err.status)) (c.self-2.view_is ∙ c.begin.ensures.core) (search rules) c.in-Err.ensures.step c.in-Err.ensures.given c.return_brief-in-Err.ensures.core in
-    inl (reply.AllocatePool (Err c.in-Err.status), served, c.return_brief-in-Err.ensures.status, refl)
+pub returns : goal.returns
+returns g c =
+    let certifies = sym (ap (λ (x : EfiCoreValue g.row.A.Denot). x.certifies) c.self.view_is) ∙ c.if-self.false in
+    let keeps = sym (ap (λ (x : EfiCoreValue g.row.A.Denot). x.keeps_replies) c.self.view_is) ∙ c.if-self-2.false in
+    let asked = call.AllocatePool c.args.mtype c.args.size in
+    let answer = reply.AllocatePool c.allocate_pool-placed.result in
+    let served = nothing_kept c.args.self.now _ _ c.allocate_pool-placed.new.self asked answer (c.self-2.view_is ∙ c.begin.ensures.core) (rw certifies tt) c.allocate_pool-placed.ensures.step c.allocate_pool-placed.ensures.given keeps refl refl in
+    inl (answer, served, c.return_block.ensures.status, c.return_block.ensures.value)

@@ -9,7 +9,7 @@ returns-then-ne g c =
       c.write_path-reply.result,
       c.write_path-reply.new.self.core.state,
       c.write_path-reply.ensures.run,
-      inr (search rules, refl, (reply.FreePool c.free_pool-freed.result, rw (c.return_in_place.ensures.core, sym c.write_path-reply.ensures.given, sym core) c.free_pool-freed.ensures.step)),
-      c.return_in_place.ensures.status,
+      inr (search rules, refl, (reply.FreePool c.free_pool-freed.result, rw (c.return_status.ensures.core, sym c.write_path-reply.ensures.given, sym core) c.free_pool-freed.ensures.step)),
+      c.return_status.ensures.status,
       search rules,
     )

@@ -13,10 +13,10 @@ returns g c =
     let path = c.args.path.now in
     let begun = c.self.view_is ∙ c.begin.ensures.core in
     elim c.match-locate_path.branch [
-      | in-Ok w ↦ located_here c.args.self.now _ _ c.uuid.result (guid_in c.args.guid.now) path c.locate_path.result before _ _ begun c.uuid.ensures c.locate_path.ensures.step c.locate_path.ensures.given refl refl refl
+      | in-Ok w ↦ located_here c.args.self.now _ _ c.uuid.result (guid_in c.args.guid.now) path c.locate_path.result before _ _ begun c.uuid.ensures c.locate_path.ensures.step c.locate_path.ensures.given refl refl refl refl
           (w.result-is ∙ w.number.ensures ∙ ap (λ found. status_number (returned_status found)) (sym w.in-Ok.is))
           ((λ i. (w.device-is i, w.matched-is i)) ∙ ap (found_or before) (sym w.in-Ok.is))
-      | in-Err w ↦ located_here c.args.self.now _ _ c.uuid.result (guid_in c.args.guid.now) path c.locate_path.result before _ _ begun c.uuid.ensures c.locate_path.ensures.step c.locate_path.ensures.given refl refl refl
+      | in-Err w ↦ located_here c.args.self.now _ _ c.uuid.result (guid_in c.args.guid.now) path c.locate_path.result before _ _ begun c.uuid.ensures c.locate_path.ensures.step c.locate_path.ensures.given refl refl refl refl
           (w.result-is ∙ w.number-in-Err.ensures ∙ ap (λ found. status_number (returned_status found)) (sym w.in-Err.is))
           ((λ i. (w.device-is i, w.matched-is i)) ∙ ap (found_or before) (sym w.in-Err.is))
     ]

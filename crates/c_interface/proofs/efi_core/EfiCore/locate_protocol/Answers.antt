@@ -1,16 +1,17 @@
-use Rattle.std.proofs.Common.{rules, subst, sym, ap, ◌∙◌, inl}
-use Rattle.boot_core.specs.Steps.{Step}
+use Rattle.std.proofs.Common.{rules, ◌∙◌, refl, sym, ap, inl}
 use Rattle.boot_calls.specs.declared.calls.Call.TheVariants as call
-use Rattle.c_interface.specs.EfiCores.{EfiCoreValue, meanings}
-use Rattle.c_interface.specs.Served.{AnswersNumber, Serves}
+use Rattle.boot_replies.specs.declared.replies.Reply.TheVariants as reply
+use Rattle.c_interface.specs.EfiCores.{EfiCoreValue}
+use Rattle.c_interface.proofs.LeftReplies.{nothing_kept}
+use Rattle.c_interface.proofs.Opened.{value_located}
 use Rattle.c_interface.proofs.efi_core.EfiCore.locate_protocol.Goals as goal
+
+pub returns-then-self : goal.returns-then-self
+returns-then-self g c = rw (← c.uuid-guid.ensures) c.answer_number.ensures
 
 pub returns : goal.returns
 returns g c =
-    let core = ap (λ (x : EfiCoreValue g.row.A.Denot). x.core) (c.self.view_is ∙ c.begin.ensures.core) in
-    let step : Step (meanings c.args.self.now) c.args.self.now.core.state (call.LocateProtocol c.uuid.result c.args.key) c.locate_protocol-reply.result c.return_number.new.self.core.state =
-    rw (c.return_number.ensures.core, sym core) c.locate_protocol-reply.ensures.step in
-    let served : Serves c.args.self.now (call.LocateProtocol c.uuid.result c.args.key) c.locate_protocol-reply.result c.return_number.new.self =
-    record { step = step; given = search rules; certifies = search rules; block = search rules; last = search rules } in
-    subst (λ guid. AnswersNumber c.args.self.now (call.LocateProtocol guid c.args.key) c.args.value.now c.return_number.result c.return_number.new.place c.return_number.new.self) c.uuid.ensures
-    (inl (c.locate_protocol-reply.result, served, c.return_number.ensures.status, c.return_number.ensures.number))
+    let keeps = sym (ap (λ (x : EfiCoreValue g.row.A.Denot). x.keeps_replies) c.self.view_is) ∙ c.if-self.false in
+    let answer = reply.LocateProtocol c.locate_protocol.result in
+    let served = nothing_kept c.args.self.now _ _ c.locate_protocol.new.self (call.LocateProtocol c.uuid-guid.result c.args.key) answer (c.self-2.view_is ∙ c.begin.ensures.core) (search rules) c.locate_protocol.ensures.step c.locate_protocol.ensures.given keeps refl refl in
+    rw (← c.uuid-guid.ensures) (inl (answer, served, c.return_value.ensures.status, c.return_value.ensures.value ∙ value_located g.row.A.Denot c.args.value.now c.locate_protocol.result))
