@@ -336,7 +336,7 @@ RAFKUDIN_API void RafkudinCertify(struct rafkudin *core, bool certify);
 
 /* Whether the core keeps the reply of each service from now on, for RafkudinReplyLine. A new core
  * keeps none: to keep one takes a call some time, and what it returns is the same either way. */
-RAFKUDIN_API void RafkudinRecord(struct rafkudin *core, bool record);
+RAFKUDIN_API void RafkudinRecord(struct rafkudin *core, bool keep);
 
 /* The certificate of the last service that was called, as the text of a certificate block
  * (docs/FORMATS.md), without a zero byte at its end. There is one where that call succeeded while

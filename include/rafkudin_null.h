@@ -735,10 +735,10 @@ static inline void rafkudin_certify(struct rafkudin *core, bool certify)
 }
 #define RafkudinCertify rafkudin_certify
 
-static inline void rafkudin_record(struct rafkudin *core, bool record)
+static inline void rafkudin_record(struct rafkudin *core, bool keep)
 {
     if (core != NULL)
-        RafkudinRecord(core, record);
+        RafkudinRecord(core, keep);
 }
 #define RafkudinRecord rafkudin_record
 

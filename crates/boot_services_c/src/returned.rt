@@ -30,10 +30,10 @@ pub extern "C" fn RafkudinCertify(core: &mut Rafkudin, certify: bool)
 
 /// Keeps the reply of each service from now on, of which `RafkudinReplyLine` tells, or keeps none, as at first.
 #[unsafe(no_mangle)]
-pub extern "C" fn RafkudinRecord(core: &mut Rafkudin, record: bool)
-    ensures { core.new.core ≡ recording_core record core.old.core }
+pub extern "C" fn RafkudinRecord(core: &mut Rafkudin, keep: bool)
+    ensures { core.new.core ≡ recording_core keep core.old.core }
 {
-    core.held().record(record);
+    core.held().record(keep);
 }
 
 /// The block of the certificate of the last service that was called, in the front of `text`; the variable `length`
