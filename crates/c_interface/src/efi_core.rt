@@ -120,8 +120,13 @@ impl<A: Allocator + Copy> EfiCore<A> {
     pub(crate) fn forget(&mut self)
         ensures { self.new ≡ forgotten self.old }
     {
-        self.last = LastCall::Nothing;
-        self.block = LastBlock::Nothing;
+        // What is left is looked at before it is dropped, as mostly nothing is.
+        if !matches!(self.last, LastCall::Nothing) {
+            self.last = LastCall::Nothing;
+        }
+        if !matches!(self.block, LastBlock::Nothing) {
+            self.block = LastBlock::Nothing;
+        }
     }
 
     /// Leaves nothing of the call before, and returns whether a further one may be made.

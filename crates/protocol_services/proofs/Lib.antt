@@ -19,3 +19,4 @@ pub mod RemovedMany
 pub mod FreeToGo
 pub mod TwiceNamed
 pub mod Decided
+pub mod OpensByNone

@@ -8,7 +8,7 @@ use Rattle.driver_connect.specs.Drivers.{Meaning}
 use Rattle.driver_connect.specs.declared.reconnecting.Replacement.{Replacement}
 use Rattle.driver_connect.specs.Stopping.{PlannedStop, planned_stop, takes_item}
 use Rattle.protocol_services.specs.Lists.{Lists}
-use Rattle.protocol_services.specs.Removing.{Frees, Replaces, can_be_freed, drivers_on, freed, uninstalled, without_opens_on}
+use Rattle.protocol_services.specs.Removing.{Frees, Replaces, can_be_freed, drivers_on, uninstalled, without_opens_on}
 
 -- what the stop takes out that frees an interface
 abbrev pub stop_to_free : Lists → ℕ → List ℕ → PlannedStop

@@ -48,7 +48,7 @@ impl<A: Allocator + Copy> Protocols<A> {
             .decide_installed(&self.handles, value.is_some(), request)
     }
 
-    /// Opens an interface for which there is an equal item, or for agent 0.
+    /// Opens an interface for which there is an equal item.
     fn count_open(
         &mut self,
         value: Option<u64>,
@@ -128,21 +128,16 @@ impl<A: Allocator + Copy> Protocols<A> {
         ensures opens { HandlesProtocol self.old handle guid result self.new }
         ensures raised { IsRaised self.old self.new }
     {
-        let request = OpenRequest {
-            handle,
-            guid,
-            agent: 0,
-            controller: 0,
-            attributes: BY_HANDLE_PROTOCOL,
-        };
-        let value = self.handles.interface(handle, guid);
-        match self.decide(value, &request) {
-            Decision::Refuse(status) => Err(status),
-            _ => match self.count_open(value, &request) {
-                Ok(Some(value)) => Ok(value),
-                Ok(None) => unreachable!(),
-                Err(status) => Err(status),
+        // The contract of this look-up says that interfaces are on live handles.
+        let _numbers = self.handles.all();
+        match self.handles.interface(handle, guid) {
+            // An open by no agent has no item.
+            Some(value) => match self.opens.add(handle, guid, 0, 0, BY_HANDLE_PROTOCOL) {
+                Ok(()) => Ok(value),
+                Err(_) => unreachable!(),
             },
+            None if self.handles.is_live(handle) => Err(Status::Unsupported),
+            None => Err(Status::InvalidParameter),
         }
     }
 
