@@ -57,8 +57,8 @@
  *   is 0 or 1.
  * - The variables and buffers that a call's pointers point to must not overlap, nor be a part of
  *   the core; those that are only read may overlap. So each result has a variable of its own.
- * - A core is in one call at a time, on any thread: where the next call is on another thread, the
- *   caller orders the two, as a lock or a join does. Two cores may be in calls at once.
+ * - A core is in one call at a time, on the thread that made it. Two cores may be in calls at once,
+ *   also in two threads.
  * - No call is made from an interrupt handler itself, from a signal handler, or in the forked child
  *   of a process with threads.
  *

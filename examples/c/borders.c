@@ -507,43 +507,10 @@ static int run_thread(void *unused)
     return 0;
 }
 
-/* Serves a core that another thread made. */
-static int use_core(void *made)
-{
-    struct rafkudin *core = made;
-    uint64_t handle = 0, address = 0, value = 0;
-
-    HOLDS(RafkudinAllocatePages(core, 0, 4, 3, &address) == RAFKUDIN_SUCCESS);
-    HOLDS(RafkudinInstallProtocolInterface(core, &handle, &disk, 0, address) == RAFKUDIN_SUCCESS);
-    HOLDS(RafkudinHandleProtocol(core, handle, &disk, &value) == RAFKUDIN_SUCCESS &&
-          value == address);
-    return 0;
-}
-
-/* A core is made here, is handed to one thread after the other, and is freed on another one. */
-static int hand_on(void *unused)
-{
-    struct rafkudin *core = make_core();
-    thrd_t thread;
-
-    (void)unused;
-    for (int at = 0; at < 8; at++) {
-        if (thrd_create(&thread, use_core, core) != thrd_success)
-            abort();
-        HOLDS(thrd_join(thread, NULL) == thrd_success);
-        use_core(core);
-    }
-    RafkudinFree(core);
-    return 0;
-}
-
 static void try_threads(void)
 {
     thrd_t threads[2];
 
-    if (thrd_create(&threads[0], hand_on, NULL) != thrd_success)
-        abort();
-    HOLDS(thrd_join(threads[0], NULL) == thrd_success);
     for (int at = 0; at < 2; at++)
         if (thrd_create(&threads[at], run_thread, NULL) != thrd_success)
             abort();
