@@ -1,5 +1,5 @@
 -- The state of the machine that serves the calls.
-use Rattle.std.specs.Prelude.{ℕ, ◌+◌, ◌≤◌, Bool, false, List, [], length, Option}
+use Rattle.std.specs.Prelude.{◌≡◌, ℕ, ◌+◌, ◌≤◌, Bool, false, List, [], length, Option, option_map, Vec}
 use Rattle.page_ranges.specs.declared.ranges.Descriptor.{Descriptor}
 use Rattle.page_ranges.specs.Memory.{IsProperMemory}
 use Rattle.page_ranges.specs.MemoryMap.{memory_map}
@@ -41,6 +41,10 @@ map_of s = memory_map s.parts.book.memory
 -- one
 abbrev pub kept_map : {A : Type 0} → Bool → State → Call A → Option (List Descriptor)
 kept_map certify s c = map_before certify s.parts.book.granule (map_of s) c
+
+-- what is kept of it
+abbrev pub KeepsMap : {A B : Type 0} → Bool → State → Call A → Option (Vec Descriptor B) → Type 0
+KeepsMap certify s c kept = option_map (λ entries. entries.items) kept ≡ kept_map certify s c
 
 -- how many calls a machine serves
 abbrev pub all_calls : ℕ
@@ -125,10 +129,22 @@ pub record Given (D : Type 0) : Type 0 where
 abbrev pub given_of : {D : Type 0} → List D → Option PoolMemory → Given D
 given_of drivers memory = record { drivers = drivers; memory = memory }
 
+-- What has come about so far, and the parts are sound.
+abbrev pub KeepsSound : Parts → ℕ → Type 0
+KeepsSound p calls_left = FollowsCalls p calls_left × AreSound p
+
 -- the state of the machine, and what the core was given
 pub record CoreValue (D : Type 0) : Type 0 where
   pub state : State
   pub given : Given D
+
+-- the lists of a core
+abbrev pub lists_of : {D : Type 0} → CoreValue D → Lists
+lists_of c = c.state.parts.lists
+
+-- the same core, with memory reserved ahead for a number of placements
+abbrev pub prepared : {D : Type 0} → ℕ → CoreValue D → CoreValue D
+prepared placements c = record { state = preparing_state placements c.state; given = c.given }
 
 -- the core of a machine before any call, with what it is given
 abbrev pub new_core : {D : Type 0} → MachineValue → List D → Option PoolMemory → CoreValue D

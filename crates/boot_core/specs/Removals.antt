@@ -8,7 +8,7 @@ use Rattle.boot_replies.specs.declared.replies.Reply.{Reply}
 use Rattle.boot_replies.specs.declared.replies.Reply.TheVariants as reply
 use Rattle.driver_connect.specs.Drivers.{Meaning}
 use Rattle.protocol_services.specs.RemovingMany.{UninstallsMany}
-use Rattle.boot_core.specs.Machines.{State, leaving}
+use Rattle.boot_core.specs.Machines.{CoreValue, State, leaving}
 use Rattle.boot_core.specs.Steps.{CallRun, IsCounted, OnLists, WhileOpen}
 
 -- What it returns, and the machine after it, which changes in the lists alone, with one call less.
@@ -19,6 +19,12 @@ pub record UninstallStep (ds : List Meaning) (old : State) (handle : ℕ)
       (result ≡ Err Unsupported)
   pub exited : new.exited ≡ old.exited
   pub calls_left : IsCounted old new
+
+-- the same of a core with its drivers
+abbrev pub UninstallsAll : {D : Type 0} → (D → Meaning) → CoreValue D → ℕ → List (List ℕ × ℕ)
+    → Result (Unit {0}) Status → CoreValue D → Type 0
+UninstallsAll meaning old handle pairs result new =
+    UninstallStep (map meaning old.given.drivers) old.state handle pairs result new.state
 
 -- the calls of UninstallProtocolInterface for some pairs on a handle, and their replies
 abbrev pub uninstalls : (A : Type 0) → ℕ → List (List ℕ × ℕ) → List (Call A)

@@ -1,6 +1,6 @@
 //! The memory map before a call, for the certificate that the reply may carry.
-ghost use Rattle.std.specs.Prelude.{◌≡◌, IfOk, option_map};
-ghost use Rattle.boot_core.specs.Machines.{kept_map, map_of};
+ghost use Rattle.std.specs.Prelude.{◌≡◌, IfOk};
+ghost use Rattle.boot_core.specs.Machines.{KeepsMap, map_of};
 
 use crate::services::Services;
 use boot_calls::Call;
@@ -16,8 +16,7 @@ pub fn map_before<D: Driver, A: Allocator + Copy>(
     call: &Call<A>,
     certify: bool,
 ) -> Result<Option<Vec<Descriptor, A>>, AllocError>
-    ensures { IfOk result (λ kept. option_map (λ entries. entries.items) kept
-        ≡ kept_map certify services.now.state call.now) }
+    ensures { IfOk result (λ kept. KeepsMap certify services.now.state call.now kept) }
 {
     if certify && may_be_certified(services.granule(), call) {
         Ok(Some(entries_of(alloc, services)?))

@@ -1,6 +1,6 @@
 //! UninstallMultipleProtocolInterfaces.
-ghost use Rattle.std.specs.Prelude.{◌≡◌, ◌<◌, map};
-ghost use Rattle.boot_core.specs.Removals.{UninstallStep};
+ghost use Rattle.std.specs.Prelude.{◌≡◌, ◌<◌};
+ghost use Rattle.boot_core.specs.Removals.{UninstallsAll};
 
 use crate::services::Services;
 use driver_connect::Driver;
@@ -16,8 +16,7 @@ impl<D: Driver, A: Allocator + Copy> Services<D, A> {
     /// OUT_OF_RESOURCES: memory ran out.
     pub fn uninstall_multiple(&mut self, handle: u64, pairs: &[(Uuid, u64)]) -> Result<(), Status>
         requires { 0 < self.old.state.calls_left }
-        ensures step { UninstallStep (map D.meaning self.old.given.drivers) self.old.state handle
-            pairs.now result self.new.state }
+        ensures step { UninstallsAll D.meaning self.old handle pairs.now result self.new }
         ensures given { self.new.given ≡ self.old.given }
     {
         match self.begin() {

@@ -2,7 +2,7 @@
 ghost use Rattle.std.specs.Prelude.{◌≡◌, ◌+◌, ◌<◌, ◌≤◌, ◌^◌, [], length, IfOk, None, OnErr, OnOk, Some, slice_get, if◌then◌else◌};
 ghost use Rattle.page_ranges.specs.Memory.{IsProperMemory};
 ghost use Rattle.page_ranges.specs.MemoryMap.{memory_map};
-ghost use Rattle.boot_core.specs.Machines.{certifying_state, leaving, most_calls, new_core, preparing_state, FollowsCalls, IsUnused};
+ghost use Rattle.boot_core.specs.Machines.{certifying_state, leaving, most_calls, new_core, prepared, FollowsCalls, IsUnused};
 ghost use Rattle.boot_core.specs.PathSteps.{LocateStep};
 ghost use Rattle.boot_core.specs.Steps.{IsCounted, MapStep, ReadStep, Calls};
 
@@ -47,7 +47,7 @@ pub struct Services<D = Box<dyn Driver>, A: Allocator = Global> {
 }
 
 impl<D, A: Allocator> Model for Services<D, A> {
-    ghost use Rattle.boot_core.specs.Machines.{CoreValue, AreSound, FollowsCalls, core_of, given_of, parts_in};
+    ghost use Rattle.boot_core.specs.Machines.{CoreValue, KeepsSound, core_of, given_of, parts_in};
 
     ghost Value = { CoreValue D };
 
@@ -55,8 +55,7 @@ impl<D, A: Allocator> Model for Services<D, A> {
         core_of (parts_in c.book c.pools c.protocols) c.exited c.calls_left
         (given_of c.drivers.items c.pools.memory) };
 
-    ghost invariant = { λ c. FollowsCalls (parts_in c.book c.pools c.protocols) c.calls_left
-        × AreSound (parts_in c.book c.pools c.protocols) };
+    ghost invariant = { λ c. KeepsSound (parts_in c.book c.pools c.protocols) c.calls_left };
 }
 
 impl<D: Driver, A: Allocator + Copy> Services<D, A> {
@@ -118,9 +117,7 @@ impl<D: Driver, A: Allocator + Copy> Services<D, A> {
     /// Reserves memory for a number of placements of pages and for the frees of what they place: these succeed where
     /// the host refuses all memory, but for that of certificates. On an `Err` none is reserved.
     pub fn prepare(&mut self, placements: usize) -> Result<(), AllocError>
-        ensures ok { OnOk result
-            (self.new
-            ≡ record self.old { state = preparing_state placements self.old.state }) }
+        ensures ok { OnOk result (self.new ≡ prepared placements self.old) }
         ensures err { OnErr result (self.new ≡ self.old) }
     {
         self.book.prepare(placements)

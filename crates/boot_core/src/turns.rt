@@ -1,6 +1,7 @@
 //! What comes next where a caller starts and stops drivers itself. None is a call.
 ghost use Rattle.std.specs.Prelude.{◌≡◌, length, IfOk};
 ghost use Rattle.driver_connect.specs.DriverTurns.{BeginsTurns};
+ghost use Rattle.boot_core.specs.Machines.{lists_of};
 ghost use Rattle.boot_core.specs.Stops.{stops_on_interface, stops_on_controller, children};
 
 use crate::services::Services;
@@ -43,7 +44,7 @@ impl<D: Driver, A: Allocator + Copy> Services<D, A> {
     /// it, or from one of them if `driver` is not 0.
     pub fn stops_on_controller(&self, handle: u64, driver: u64) -> Result<Vec<Pair, A>, AllocError>
         ensures { IfOk result
-            (λ v. v.items ≡ stops_on_controller self.now.state.parts.lists handle driver) }
+            (λ v. v.items ≡ stops_on_controller (lists_of self.now) handle driver) }
     {
         self.protocols.stops_on_controller(handle, driver)
     }

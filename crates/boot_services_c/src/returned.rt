@@ -28,7 +28,7 @@ pub extern "C" fn RafkudinCertify(core: &mut Rafkudin, certify: bool)
     core.held().certify(certify);
 }
 
-/// Keeps the reply of each service from now on, of which `RafkudinReplyLine` tells, or keeps none, as at first.
+/// Keeps the reply of each service from now on, for `RafkudinReplyLine`, or keeps none, as at first.
 #[unsafe(no_mangle)]
 pub extern "C" fn RafkudinRecord(core: &mut Rafkudin, keep: bool)
     ensures { core.new.core ≡ recording_core keep core.old.core }
@@ -62,7 +62,7 @@ pub extern "C" fn RafkudinReplyLine(
     text: &mut [u8],
     length: &mut u64,
 ) -> u64
-    ensures returned { ReturnsReply core.old.core number text.old length.old result text.new
+    ensures line { ReturnsReply core.old.core number text.old length.old result text.new
         length.new }
     ensures kept { core.new.core ≡ core.old.core }
 {

@@ -43,6 +43,16 @@ with_core c core = record {
   block = c.block;
 }
 
+-- the same core with another block
+abbrev pub with_block : {A : Type 0} → EfiCoreValue A → LastBlock A → EfiCoreValue A
+with_block c left = record {
+  core = c.core;
+  certifies = c.certifies;
+  keeps_replies = c.keeps_replies;
+  last = c.last;
+  block = left;
+}
+
 -- the same core, which from now on makes the certificates of its placements and keeps their blocks,
 -- or makes none
 abbrev pub certifying_core : {A : Type 0} → Bool → EfiCoreValue A → EfiCoreValue A

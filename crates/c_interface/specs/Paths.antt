@@ -69,6 +69,13 @@ RunsUntilRefused {A = A} ds old (c ∷ calls) reply new =
     ⊎ ((answer : Reply A) × (next : State) × Step ds old c answer next
     × (status_in answer ≡ Success) × RunsUntilRefused ds next calls reply new)
 
+-- a path is written to a block of the pool and installed on a handle, up to a refusal
+abbrev pub WritesPath : {A : Type 0} → EfiCoreValue A → ℕ → List ℕ → ℕ → Reply A → EfiCoreValue A
+    → Type 0
+WritesPath old handle path address reply new =
+    RunsUntilRefused (meanings old) old.core.state (path_calls handle path address) reply
+    new.core.state
+
 -- an installation that is done, whose handle and block are in the caller's variables; or one that
 -- was refused, whose block is given back
 abbrev pub EndsInstallation : {A : Type 0} → List Meaning → State → ℕ → Reply A → ℕ × ℕ → ℕ × ℕ

@@ -47,12 +47,18 @@ Installs old handle guid kind value status new_handle new =
     AnswersNumber old (call.InstallProtocolInterface handle (guid_in guid) kind value) handle status
     new_handle new
 
--- InstallMultipleProtocolInterfaces: the handle or 0, and the interfaces
+-- InstallMultipleProtocolInterfaces: the handle or 0, and pairs of GUID and value
+abbrev pub InstallsPairs : {A : Type 0} → EfiCoreValue A → ℕ → List (List ℕ × ℕ) → ℕ → ℕ
+    → EfiCoreValue A → Type 0
+InstallsPairs old handle pairs status new_handle new =
+    AnswersNumber old (call.InstallMultipleProtocolInterfaces handle pairs) handle status new_handle
+    new
+
+-- the same: the handle or 0, and the interfaces
 abbrev pub InstallsAll : {A : Type 0} → EfiCoreValue A → ℕ → List Interface → ℕ → ℕ
     → EfiCoreValue A → Type 0
 InstallsAll old handle interfaces status new_handle new =
-    AnswersNumber old (call.InstallMultipleProtocolInterfaces handle (map interface_in interfaces))
-    handle status new_handle new
+    InstallsPairs old handle (map interface_in interfaces) status new_handle new
 
 -- UninstallProtocolInterface: the handle, the GUID and the interface's value
 abbrev pub Uninstalls : {A : Type 0} → EfiCoreValue A → ℕ → Guid → ℕ → ℕ → EfiCoreValue A → Type 0

@@ -1,5 +1,6 @@
 //! Lines of a trace, run on a core.
 ghost use Rattle.std.specs.Prelude.{◌≡◌};
+ghost use Rattle.c_interface.specs.EfiCores.{with_block};
 ghost use Rattle.c_interface.specs.Lines.{RunsLine, StatusOfFault};
 
 use crate::efi_core::{ABORTED, EfiCore, LastBlock};
@@ -45,14 +46,7 @@ impl<A: Allocator + Copy> EfiCore<A> {
     fn refuse_line(&mut self, fault: RunFault) -> u64
         requires { self.old.block ≡ LastBlock.Nothing }
         ensures status { StatusOfFault fault result self.new.block }
-        ensures kept { self.new
-            ≡ record {
-              core = self.old.core;
-              certifies = self.old.certifies;
-              keeps_replies = self.old.keeps_replies;
-              last = self.old.last;
-              block = self.new.block;
-            } }
+        ensures kept { self.new ≡ with_block self.old self.new.block }
     {
         if let RunFault::NoCallsLeft = fault {
             return ABORTED;

@@ -1,10 +1,9 @@
 //! The services that take or return a list.
 ghost use Rattle.std.specs.Prelude.{◌≡◌, map, take};
-ghost use Rattle.boot_calls.specs.declared.calls.Call.TheVariants as call;
 ghost use Rattle.boot_replies.specs.declared.replies.Reply.TheVariants as reply;
 ghost use Rattle.c_interface.specs.Buffers.{front_filled};
-ghost use Rattle.c_interface.specs.Served.{AnswersNumber, ReturnsGuids, handle_bytes, returned_size, too_many};
-ghost use Rattle.c_interface.specs.Services.{InstallsAll, LocatesHandles, ListsGuids, Connects};
+ghost use Rattle.c_interface.specs.Served.{ReturnsGuids, handle_bytes, returned_size, too_many};
+ghost use Rattle.c_interface.specs.Services.{InstallsAll, InstallsPairs, LocatesHandles, ListsGuids, Connects};
 ghost use Rattle.c_machines.specs.Guids.{interface_in, standard_guid};
 
 use crate::buffers::copy_to_front;
@@ -74,9 +73,7 @@ impl<A: Allocator + Copy> EfiCore<A> {
 
     // InstallMultipleProtocolInterfaces of pairs of GUID and value.
     fn install_pairs(&mut self, handle: &mut u64, pairs: &[(Uuid, u64)]) -> u64
-        ensures { AnswersNumber self.old
-            (call.InstallMultipleProtocolInterfaces handle.old pairs.now) handle.old result
-            handle.new self.new }
+        ensures { InstallsPairs self.old handle.old pairs.now result handle.new self.new }
     {
         if !self.begin() {
             return ABORTED;

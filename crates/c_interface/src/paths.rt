@@ -1,8 +1,8 @@
 //! Device paths in the caller's memory.
 ghost use Rattle.std.specs.Prelude.{◌≡◌, ◌+◌, ◌≤◌};
 ghost use Rattle.c_machines.specs.Guids.{guid_in};
-ghost use Rattle.c_interface.specs.EfiCores.{meanings, with_core};
-ghost use Rattle.c_interface.specs.Paths.{AnswersPath, InstallsBlock, InstallsPath, RunsUntilRefused, path_calls};
+ghost use Rattle.c_interface.specs.EfiCores.{with_core};
+ghost use Rattle.c_interface.specs.Paths.{AnswersPath, InstallsBlock, InstallsPath, WritesPath};
 
 use crate::efi_core::{ABORTED, EfiCore};
 use crate::replies::{number_in, status_in};
@@ -95,8 +95,7 @@ impl<A: Allocator + Copy> EfiCore<A> {
     // Writes a path to its block, and installs the block's address.
     fn write_path(&mut self, handle: u64, path: &[u8], block: u64) -> Reply<A>
         requires { 2 ≤ self.old.core.state.calls_left }
-        ensures run { RunsUntilRefused (meanings self.old) self.old.core.state
-            (path_calls handle path.now block) result self.new.core.state }
+        ensures run { WritesPath self.old handle path.now block result self.new }
         ensures counted { self.old.core.state.calls_left ≤ self.new.core.state.calls_left + 2 }
         ensures given { self.new.core.given ≡ self.old.core.given }
         ensures others { self.new ≡ with_core self.old self.new.core }

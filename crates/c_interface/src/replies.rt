@@ -106,17 +106,14 @@ pub(crate) fn return_opened(returned: Result<Option<u64>, Status>, place: &mut u
 
 /// The same of AllocatePages, whose number is an address.
 #[inline(always)]
-pub(crate) fn return_pages<A: Allocator>(
-    returned: Result<Placed<A>, Status>,
-    place: &mut u64,
-) -> u64
+pub(crate) fn return_pages<A: Allocator>(returned: Result<Placed<A>, Status>, out: &mut u64) -> u64
     ensures status { result ≡ status_number (returned_status returned) }
-    ensures value { place.new
-        ≡ returned_or place.old (number_in {A = A} (reply.AllocatePages returned)) }
+    ensures value { out.new
+        ≡ returned_or out.old (number_in (reply.AllocatePages returned)) }
 {
     match returned {
         Ok(placed) => {
-            *place = placed.address;
+            *out = placed.address;
             Status::Success.number()
         }
         Err(status) => status.number(),
@@ -127,15 +124,15 @@ pub(crate) fn return_pages<A: Allocator>(
 #[inline(always)]
 pub(crate) fn return_block<A: Allocator>(
     returned: Result<(u64, Option<Certificate<A>>), Status>,
-    place: &mut u64,
+    out: &mut u64,
 ) -> u64
     ensures status { result ≡ status_number (returned_status returned) }
-    ensures value { place.new
-        ≡ returned_or place.old (number_in {A = A} (reply.AllocatePool returned)) }
+    ensures value { out.new
+        ≡ returned_or out.old (number_in {A = A} (reply.AllocatePool returned)) }
 {
     match returned {
         Ok((address, _certificate)) => {
-            *place = address;
+            *out = address;
             Status::Success.number()
         }
         Err(status) => status.number(),

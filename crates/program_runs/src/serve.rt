@@ -3,7 +3,7 @@ ghost use Rattle.std.specs.Prelude.{◌≡◌, ◌⊎◌, IfOk, IfErr, IfSome};
 ghost use Rattle.program_runs.specs.Serving.{ChecksBlock, IsRead, PrintsVersion, RunsFiles, ServesFiles, fault_status, status_of, usage_status};
 ghost use Rattle.text_lines.specs.Printed.{WritesFront};
 
-use boot_core::{Core, PREPARED_PLACEMENTS};
+use boot_core::{Core, PREPARED_PLACEMENTS, Services};
 use boot_trace::{MachineFault, RunFault, read_machine};
 use certificate_blocks::{BlockFault, check_block};
 use command_line::VERSION;
@@ -166,13 +166,14 @@ pub fn run_files<M: Read + Drop, T: Read + Drop, W: Write>(
         Ok(file) => file,
         Err(fault) => return Err(Fault::Machine(fault)),
     };
-    let Ok(mut core) = Core::new(alloc, file.machine, file.drivers) else {
+    let Ok(mut services) = Services::new(alloc, file.machine, file.drivers) else {
         return Err(Fault::OutOfMemory);
     };
-    core.services.certify(certify);
-    let Ok(()) = core.services.prepare(PREPARED_PLACEMENTS) else {
+    services.certify(certify);
+    let Ok(()) = services.prepare(PREPARED_PLACEMENTS) else {
         return Err(Fault::OutOfMemory);
     };
+    let mut core = Core { services };
     match boot_trace::run(alloc, &mut core, trace, out, certify) {
         Ok(()) => Ok(()),
         Err(fault) => Err(Fault::Run(fault)),
