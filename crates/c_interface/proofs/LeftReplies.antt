@@ -12,7 +12,7 @@ use Rattle.c_interface.specs.LastCalls.{Left, left_of, nothing_left}
 use Rattle.c_interface.specs.Replies.{events_in}
 use Rattle.c_interface.specs.Served.{Makes, Serves, ServesLeaving}
 
--- a call without a certificate, of which this is left
+-- a call without a certificate, after which this is left
 pub call_left : {A : Type 0} (old begun new : EfiCoreValue A) (core : CoreValue TableDriver) (asked : Call A) (answer : Reply A) (left : Left A) → begun ≡ forgotten old
     → LeavesBlock {A = A} old.certifies (kept_map old.certifies old.core.state asked) (certified old.core.state.parts.book.granule asked answer) block.Nothing
     → Step (meanings begun) begun.core.state asked answer core.state → core.given ≡ begun.core.given → new.core ≡ core → new.certifies ≡ begun.certifies → new.keeps_replies ≡ begun.keeps_replies → new.block ≡ begun.block → new.last ≡ left → ServesLeaving old asked answer left new
