@@ -16,7 +16,7 @@ use std::alloc::{AllocError, Allocator, Global};
 use std::marker::Model;
 use uuid::Uuid;
 
-/// The boot services of a machine, each of which returns its reply. The rules are said at [`Services`].
+/// The boot services of a machine, each of which returns its reply. [`Services`] has the rules.
 #[derive(Drop)]
 pub struct Core<D = Box<dyn Driver>, A: Allocator = Global> {
     pub services: Services<D, A>,

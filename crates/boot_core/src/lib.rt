@@ -5,6 +5,7 @@ mod core_state;
 mod kept_maps;
 mod laws;
 mod map_buffers;
+mod paths;
 mod pool_buffers;
 mod pool_lists;
 mod questions;

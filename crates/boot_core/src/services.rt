@@ -3,7 +3,6 @@ ghost use Rattle.std.specs.Prelude.{◌≡◌, ◌+◌, ◌<◌, ◌≤◌, ◌^
 ghost use Rattle.page_ranges.specs.Memory.{IsProperMemory};
 ghost use Rattle.page_ranges.specs.MemoryMap.{memory_map};
 ghost use Rattle.boot_core.specs.Machines.{certifying_state, leaving, most_calls, new_core, prepared, FollowsCalls, IsUnused};
-ghost use Rattle.boot_core.specs.PathSteps.{LocateStep};
 ghost use Rattle.boot_core.specs.Steps.{IsCounted, MapStep, ReadStep, Calls};
 
 use crate::map_buffers::{map_in_buffer, refused_map};
@@ -13,7 +12,7 @@ use boot_calls::{Call, Installed, LocateReply};
 use boot_machines::Machine;
 use boot_replies::{PoolList, Reply};
 use descriptor_table::{MapEntries, RunTable};
-use device_path_locate::{has_path_installed, locate, locate_bytes};
+use device_path_locate::has_path_installed;
 use driver_connect::Driver;
 use map_keys::{MapReply, get_memory_map};
 use open_agents::OpenRequest;
@@ -59,8 +58,8 @@ impl<D, A: Allocator> Model for Services<D, A> {
 }
 
 impl<D: Driver, A: Allocator + Copy> Services<D, A> {
-    /// The core of a machine, before any call; it returns certificates. The value of a driver binding
-    /// interface is the index of its driver.
+    /// The core of a machine, before any call; it returns certificates. The value of a driver binding interface is the
+    /// index of its driver.
     pub fn new(
         alloc: A,
         machine: Machine<A>,
@@ -105,8 +104,8 @@ impl<D: Driver, A: Allocator + Copy> Services<D, A> {
         })
     }
 
-    /// Returns a certificate with each place that it chooses from now on, or returns none. The places are
-    /// the same either way, and only a certificate takes memory.
+    /// Returns a certificate with each place that it chooses from now on, or returns none. The places are the same
+    /// either way, and only a certificate takes memory.
     pub fn certify(&mut self, certifies: bool)
         ensures { self.new
             ≡ record self.old { state = certifying_state certifies self.old.state } }
@@ -115,7 +114,7 @@ impl<D: Driver, A: Allocator + Copy> Services<D, A> {
     }
 
     /// Reserves memory for a number of placements of pages and for the frees of what they place: these succeed where
-    /// the host refuses all memory, but for that of certificates. On an `Err` none is reserved.
+    /// the host refuses all memory, except that of certificates. On an `Err` none is reserved.
     pub fn prepare(&mut self, placements: usize) -> Result<(), AllocError>
         ensures ok { OnOk result (self.new ≡ prepared placements self.old) }
         ensures err { OnErr result (self.new ≡ self.old) }
@@ -134,8 +133,8 @@ impl<D: Driver, A: Allocator + Copy> Services<D, A> {
         self.calls_left = calls;
     }
 
-    /// Leaves the most calls that a core can be left, where the map key is 1 and nothing is registered, as
-    /// before the first call.
+    /// Leaves the most calls that a core can be left, where the map key is 1 and nothing is registered, as before the
+    /// first call.
     pub fn leave_most_calls(&mut self)
         requires { IsUnused self.old.state.parts }
         ensures { self.new
@@ -165,14 +164,13 @@ impl<D: Driver, A: Allocator + Copy> Services<D, A> {
         }
     }
 
-    /// AllocatePages: `pages` pages of the type `mtype`, anywhere (kind 0), up to the byte at the address
-    /// `memory` (1), or at that address (2). For a type that fills granules they begin at a granule
-    /// and are rounded up to whole ones. Returns their address, and for kinds 0 and 1 the certificate of
-    /// their place, where the core returns certificates.
+    /// AllocatePages: `pages` pages of the type `mtype`, anywhere (kind 0), up to the byte at the address `memory` (1),
+    /// or at that address (2). For a type that fills granules they begin at a granule and are rounded up to whole ones.
+    /// Returns their address, and for kinds 0 and 1 the certificate of their place, where the core returns
+    /// certificates.
     ///
-    /// INVALID_PARAMETER: another kind, a type that no request may name, or no pages. NOT_FOUND: the
-    /// pages cannot be had at the address. OUT_OF_RESOURCES: kinds 0 and 1 have no permitted place, or
-    /// memory ran out.
+    /// INVALID_PARAMETER: another kind, a type that no request may name, or no pages. NOT_FOUND: the pages cannot be
+    /// had at the address. OUT_OF_RESOURCES: kinds 0 and 1 have no permitted place, or memory ran out.
     pub fn allocate_pages(
         &mut self,
         kind: u32,
@@ -191,12 +189,12 @@ impl<D: Driver, A: Allocator + Copy> Services<D, A> {
         }
     }
 
-    /// FreePages: `pages` pages from the address `memory` on are conventional again, and at each end so is
-    /// the rest of the granule that the page there lies in, if its type fills granules.
+    /// FreePages: `pages` pages from the address `memory` on are conventional again, and at each end so is the rest of
+    /// the granule that the page there lies in, if its type fills granules.
     ///
-    /// INVALID_PARAMETER: an unaligned address, no pages, or a range past the last page. NOT_FOUND: one
-    /// of the pages was not placed by AllocatePages. OUT_OF_RESOURCES: memory ran out, where
-    /// none is reserved; each AllocatePages that succeeds reserves it for one call.
+    /// INVALID_PARAMETER: an unaligned address, no pages, or a range past the last page. NOT_FOUND: one of the pages
+    /// was not placed by AllocatePages. OUT_OF_RESOURCES: memory ran out, where none is reserved; each AllocatePages
+    /// that succeeds reserves it for one call.
     pub fn free_pages(&mut self, memory: u64, pages: u64) -> Result<(), Status>
         requires { 0 < self.old.state.calls_left }
         ensures step { Calls {A = A} D.meaning self.old
@@ -241,8 +239,8 @@ impl<D: Driver, A: Allocator + Copy> Services<D, A> {
         }
     }
 
-    /// AllocatePool: a block of a number of bytes, all 0, of the type `mtype`. Returns its address, and where
-    /// new pages were placed for it the certificate of their place, where the core returns certificates.
+    /// AllocatePool: a block of a number of bytes, all 0, of the type `mtype`. Returns its address, and where new pages
+    /// were placed for it the certificate of their place, where the core returns certificates.
     pub fn allocate_pool(
         &mut self,
         mtype: u32,
@@ -341,8 +339,8 @@ impl<D: Driver, A: Allocator + Copy> Services<D, A> {
         }
     }
 
-    /// InstallMultipleProtocolInterfaces: installs interfaces on a handle, pairs of GUID and value:
-    /// all of them, or none. ALREADY_STARTED: one is a device path that a live handle has already.
+    /// InstallMultipleProtocolInterfaces: installs interfaces on a handle, pairs of GUID and value: all of them, or
+    /// none. ALREADY_STARTED: one is a device path that a live handle has already.
     pub fn install_multiple(
         &mut self,
         handle: u64,
@@ -422,9 +420,8 @@ impl<D: Driver, A: Allocator + Copy> Services<D, A> {
         }
     }
 
-    /// LocateHandle: all handles (search 0), the handle that is next for a registration's key, which is
-    /// taken (1), or those that carry a GUID (2), where a buffer of this size has room for them, 8
-    /// bytes each.
+    /// LocateHandle: all handles (search 0), the handle that is next for a registration's key, which is taken (1), or
+    /// those that carry a GUID (2), where a buffer of this size has room for them, 8 bytes each.
     pub fn locate_handle(&mut self, search: u32, guid: Uuid, key: u64, size: u64) -> LocateReply<A>
         requires { 0 < self.old.state.calls_left }
         ensures step { Calls D.meaning self.old
@@ -466,8 +463,8 @@ impl<D: Driver, A: Allocator + Copy> Services<D, A> {
         }
     }
 
-    /// LocateProtocol: the value of the interface of a GUID, for key 0 on the lowest handle that carries
-    /// it, else on the handle that is next for the key, which is taken.
+    /// LocateProtocol: the value of the interface of a GUID, for key 0 on the lowest handle that carries it, else on
+    /// the handle that is next for the key, which is taken.
     pub fn locate_protocol(&mut self, guid: Uuid, key: u64) -> Result<u64, Status>
         requires { 0 < self.old.state.calls_left }
         ensures step { Calls {A = A} D.meaning self.old (Call.LocateProtocol guid key)
@@ -580,8 +577,8 @@ impl<D: Driver, A: Allocator + Copy> Services<D, A> {
         }
     }
 
-    /// ConnectController: starts drivers on a handle, those first that are named, and where `recursive` is
-    /// set on the handles that this makes. The reply has the events.
+    /// ConnectController: starts drivers on a handle, those first that are named, and where `recursive` is set on the
+    /// handles that this makes. The reply has the events.
     pub fn connect_controller(
         &mut self,
         handle: u64,
@@ -613,33 +610,6 @@ impl<D: Driver, A: Allocator + Copy> Services<D, A> {
             Ok(()) => self
                 .protocols
                 .disconnect(self.drivers.as_slice(), handle, driver),
-            Err(status) => Err(status),
-        }
-    }
-
-    /// LocateDevicePath: of the handles that carry a GUID, the one whose device path is the longest prefix
-    /// of the path at an address in the pool.
-    pub fn locate_device_path(&mut self, guid: Uuid, address: u64) -> Result<(u64, u64), Status>
-        requires { 0 < self.old.state.calls_left }
-        ensures step { Calls {A = A} D.meaning self.old
-            (Call.LocateDevicePath guid address) (Reply.LocateDevicePath result) self.new }
-        ensures given { self.new.given ≡ self.old.given }
-    {
-        match self.begin() {
-            Ok(()) => locate(self.protocols.handles(), &self.pools, guid, address),
-            Err(status) => Err(status),
-        }
-    }
-
-    /// LocateDevicePath with a path in the caller's memory: the handle that is found, and how many bytes of
-    /// the path's nodes its own path matches.
-    pub fn locate_path(&mut self, guid: Uuid, bytes: &[u8]) -> Result<(u64, usize), Status>
-        requires { 0 < self.old.state.calls_left }
-        ensures step { LocateStep self.old.state guid bytes.now result self.new.state }
-        ensures given { self.new.given ≡ self.old.given }
-    {
-        match self.begin() {
-            Ok(()) => locate_bytes(self.protocols.handles(), &self.pools, guid, bytes),
             Err(status) => Err(status),
         }
     }
